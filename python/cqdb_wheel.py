@@ -1,11 +1,12 @@
 """Makes the wheel of the Python module cqdb: what pip calls for `pip install .` in a clone (PEP 517). The wheel holds the
-module and the shared library, which is made first: from the archive, which is proved and made where it is not there.
-It needs no other package."""
+module and the shared library, which is made first: from the archive, which is proved and made anew where it is not there or is
+older than a source. It needs no other package."""
 from __future__ import annotations
 
 import base64
 import hashlib
 import pathlib
+import shutil
 import subprocess
 import zipfile
 from typing import Any, Dict, List, Optional, Tuple
@@ -57,10 +58,29 @@ def build_sdist(sdist_directory: str, config_settings: Settings = None) -> str:
 
 
 def _make_library() -> None:
-    scripts = ["make-shared"] if ARCHIVE.is_file() else ["make-archive", "make-shared"]
-    for script in scripts:
+    """Makes the shared library; before it the archive, where there is none or a source is newer."""
+    newer = _newer_source()
+    if newer and ARCHIVE.is_file() and shutil.which("rt") is None:
+        raise SystemExit(
+            f"cqdb: {newer} is newer than {ARCHIVE.relative_to(ROOT)}, which may be of other sources: run ./make-archive, for which"
+            " rt has to be on the path; or, where the archive is of these sources, `touch` it"
+        )
+    for script in ["make-archive", "make-shared"] if newer else ["make-shared"]:
         if subprocess.run([str(ROOT / script)]).returncode != 0:
             raise SystemExit(f"cqdb: the library was not made: ./{script} says above what is missing")
+
+
+def _newer_source() -> Optional[pathlib.Path]:
+    """A source that is newer than the archive, the newest one; every source is where there is no archive."""
+    folders = [folder for name in ("src", "specs", "proofs") for folder in ROOT.glob(f"crates/*/{name}")]
+    sources = [file for folder in folders for file in folder.rglob("*") if file.is_file()]
+    newest = max(sources + [ROOT / name for name in ("KIT", "crates.txt", "make-archive")], key=_changed)
+    return newest.relative_to(ROOT) if _changed(newest) > _changed(ARCHIVE) else None
+
+
+def _changed(file: pathlib.Path) -> int:
+    """When a file was changed, in nanoseconds; 0 where it is not there."""
+    return file.stat().st_mtime_ns if file.is_file() else 0
 
 
 def _version() -> str:

@@ -1,67 +1,54 @@
 """Reading an image."""
 from __future__ import annotations
 
-import ctypes
-import mmap
 import os
-import stat
 from array import array
-from dataclasses import astuple, dataclass
-from typing import Iterable, Iterator, List, Optional, Tuple, TypeVar, Union
+from collections.abc import Mapping
+from datetime import date as Date
+from typing import Any, Iterable, Iterator, List, Optional, Tuple, TypeVar, Union
 
 from cqdb.changes import Change, changed
+from cqdb.check import Check, checked
+from cqdb.dates import Window, day, lent_windows
+from cqdb.entries import first_puts, id_at, name_at
+from cqdb.ids import Ids
 from cqdb.library import calls
-from cqdb.names import Name, Text, id_number
+from cqdb.memory import Image, Path, mapped
+from cqdb.names import NAMES, Bytes, Name, Text, id_number, plain
 from cqdb.one_to_one import OneToOne, first_mismatch
+from cqdb.pickles import digest, from_bytes, from_file
 from cqdb.refusal import accept
-from cqdb.rounds import ROUND, Image, id_round, id_rounds, name_round, place_round
+from cqdb.rounds import ROUND, id_round, name_round
+from cqdb.views import Items, Values
 
 Default = TypeVar("Default")
 
 
-@dataclass(frozen=True)
-class Check:
-    """Can an image be relied on? It is true where each answer is yes."""
-
-    canonical: bool
-    """Some list of puts makes exactly these bytes."""
-    readings_agree: bool
-    """No name has a zero byte, so a C string shows all of it."""
-    every_name_home: bool
-    """The search for each id's name meets that id."""
-    one_to_one: bool
-    """Each entry's name has its id, and its id has its name; Catalogue.one_to_one says which entry fails."""
-
-    def __bool__(self) -> bool:
-        return all(astuple(self))
-
-
-class Catalogue:
-    """An opened image: names to ids and ids to names.
+class Catalogue(Mapping[str, int]):
+    """An opened image, a Mapping from names to ids; `ids` is the Mapping from ids to names.
 
     >>> from cqdb import Writer
     >>> writer = Writer()
     >>> for id, name in enumerate(["north wall", "crane", "quay"]):
     ...     writer.put(name, id)
     >>> with Catalogue(writer.close()) as catalogue:
-    ...     len(catalogue), "crane" in catalogue, catalogue["crane"], catalogue.name(2)
-    (3, True, 1, 'quay')
+    ...     len(catalogue), "crane" in catalogue, catalogue["crane"], catalogue.ids[2], dict(catalogue)
+    (3, True, 1, 'quay', {'north wall': 0, 'crane': 1, 'quay': 2})
 
-    Names are str or bytes; text becomes bytes by `encoding` and `errors`. Any number of threads may read a catalogue. Every call
-    ends and answers on damaged images too.
+    Names are asked for as str or bytes, and given as str; text becomes bytes by `encoding` and `errors`, and back. A name has the id
+    of its first put, an id the name of its last. Iteration gives each name that has an id once, in the order of the first puts.
+    The first iteration, and the first `len`, walk the tables and keep four bytes for each name.
+
+    Any number of threads may read a catalogue. Every call ends and answers on damaged images too. A catalogue is pickled by its
+    path where it was opened from a file, otherwise by its bytes; a file that holds another image when it is unpickled is refused.
     """
 
-    def __init__(
-        self, image: Union[bytes, bytearray, memoryview], *, encoding: str = "utf-8", errors: str = "surrogateescape"
-    ) -> None:
+    def __init__(self, image: Bytes, *, encoding: str = "utf-8", errors: str = "surrogateescape") -> None:
         """Opens the image in these bytes, which are kept; bytes may follow it. CQDBError where they are no image."""
-        held = image if isinstance(image, bytes) else bytes(memoryview(image))
-        self._begin(held, Text(encoding, errors), "")
+        self._begin(plain(image), Text(encoding, errors), "")
 
     @classmethod
-    def open(
-        cls, path: Union[str, "os.PathLike[str]"], *, encoding: str = "utf-8", errors: str = "surrogateescape"
-    ) -> "Catalogue":
+    def open(cls, path: Path, *, encoding: str = "utf-8", errors: str = "surrogateescape") -> "Catalogue":
         """Opens the image in a file, which is mapped and not read. OSError where the file cannot be read, CQDBError where it is
         no image. A file that is replaced, as by Writer.write, stays mapped as it was; one that is written in place gives other
         answers, and one that is cut short ends the process by a signal.
@@ -75,8 +62,17 @@ class Catalogue:
         ...         print(catalogue["crane"])
         1
         """
+        image = mapped(path)
+        catalogue = cls._over(image, Text(encoding, errors), os.fsdecode(path))
+        if not isinstance(image, bytes):
+            catalogue._path = os.path.abspath(os.fsdecode(path))
+        return catalogue
+
+    @classmethod
+    def _over(cls, image: Image, text: Text, where: str = "") -> "Catalogue":
+        """A catalogue over an image that nobody changes. `where` names it in an error."""
         catalogue = cls.__new__(cls)
-        catalogue._begin(_mapped(path), Text(encoding, errors), os.fsdecode(path))
+        catalogue._begin(image, text, where)
         return catalogue
 
     def _begin(self, image: Image, text: Text, where: str) -> None:
@@ -86,6 +82,8 @@ class Catalogue:
         self._image = image
         self._num: int = answer.num
         self._text = text
+        self._path: Optional[str] = None
+        self._first_puts: Optional[array] = None
 
     def _lent(self) -> Image:
         """The image, which the caller holds while the library reads it, so that a close by another thread does no harm."""
@@ -96,7 +94,7 @@ class Catalogue:
 
     def close(self) -> None:
         """Lets go of the image. Calls then raise ValueError; closing again does nothing."""
-        self._image = None
+        self._image = self._first_puts = None
 
     def __enter__(self) -> "Catalogue":
         self._lent()
@@ -109,25 +107,54 @@ class Catalogue:
         state = "closed" if self._image is None else f"{self._num} entries"
         return f"<cqdb.Catalogue: {state}>"
 
-    def __len__(self) -> int:
-        """The number of entries. A name that was put again counts again."""
+    def __bytes__(self) -> bytes:
+        """The image, and the bytes that follow it."""
+        return self._lent()[:]
+
+    def __reduce__(self) -> Tuple[Any, ...]:
+        image, text = self._lent(), self._text
+        if self._path is None:
+            return from_bytes, (type(self), image[:], text.encoding, text.errors)
+        return from_file, (type(self), self._path, digest(image), text.encoding, text.errors)
+
+    def __copy__(self) -> "Catalogue":
+        """Another catalogue over the same image, which nobody changes."""
+        other = self._over(self._lent(), self._text)
+        other._path = self._path
+        return other
+
+    def __deepcopy__(self, memo: Any) -> "Catalogue":
+        return self.__copy__()
+
+    @property
+    def num(self) -> int:
+        """The number of entries by the tables' sizes. A name that was put again counts again."""
+        self._lent()
         return self._num
 
-    def _find(self, name: Name) -> Optional[int]:
-        image, wanted = self._lent(), self._text.encode(name)
+    def _find(self, name: Any) -> Optional[int]:
+        """The id of a name; None where it has none, and for what is no name."""
+        image = self._lent()
+        if not isinstance(name, NAMES):
+            # As a dict does, which takes any key that can be hashed.
+            hash(name)
+            return None
+        try:
+            wanted = self._text.encode(name)
+        except UnicodeError:
+            # No bytes are this text, so no name is.
+            return None
         answer = calls.cqdb_to_id(image, len(image), wanted, len(wanted))
         return answer.id if answer.found else None
 
-    def __contains__(self, name_or_id: object) -> bool:
-        """Has the name an id, or the id a name?
+    def __contains__(self, name: object) -> bool:
+        """Has the name an id?
 
         >>> catalogue = _example()
-        >>> "crane" in catalogue, b"crane" in catalogue, "mole" in catalogue, 1 in catalogue, 9 in catalogue
-        (True, True, False, True, False)
+        >>> "crane" in catalogue, b"crane" in catalogue, "mole" in catalogue, 1 in catalogue, 1 in catalogue.ids
+        (True, True, False, False, True)
         """
-        if isinstance(name_or_id, int):
-            return 0 <= name_or_id < self.back_size and self.name_bytes(name_or_id) is not None
-        return self._find(name_or_id) is not None  # type: ignore[arg-type]
+        return self._find(name) is not None
 
     def __getitem__(self, name: Name) -> int:
         """The id of a name, of its first put. KeyError where it has none."""
@@ -136,20 +163,66 @@ class Catalogue:
             raise KeyError(name)
         return found
 
-    def get(self, name: Name, default: Optional[Default] = None) -> Union[int, Optional[Default]]:
+    def get(self, name: Name, default: Optional[Default] = None) -> Union[int, Optional[Default]]:  # type: ignore[override]
         """The id of a name, or the default."""
         found = self._find(name)
         return default if found is None else found
 
-    def ids(self, names: Iterable[Name]) -> List[Optional[int]]:
+    def _offsets(self, image: Image) -> array:
+        """The offsets of the entries that lookups give."""
+        found = self._first_puts
+        if found is None:
+            found = self._first_puts = first_puts(image)
+        return found
+
+    def __len__(self) -> int:
+        """The number of names that have an id. `num` counts a name that was put again each time."""
+        return len(self._offsets(self._lent()))
+
+    def __iter__(self) -> Iterator[str]:
+        """The names that have an id, in the order of their first puts.
+
+        >>> list(_example())
+        ['north wall', 'crane']
+        """
+        return (name for name, _ in self._pairs())
+
+    def _pairs(self) -> Iterator[Tuple[str, int]]:
+        image = self._lent()
+        for offset in self._offsets(image):
+            yield self._text.decode(name_at(image, offset)), id_at(image, offset)
+
+    def items(self) -> Items:
+        """The names with their ids.
+
+        >>> list(_example().items())
+        [('north wall', 0), ('crane', 1)]
+        """
+        return Items(self)
+
+    def values(self) -> Values:
+        """The ids, in the order of their names."""
+        return Values(self)
+
+    @property
+    def ids(self) -> Ids:
+        """The ids that have a name, a Mapping from ids to names in rising order of the ids.
+
+        >>> dict(_example().ids)
+        {0: 'north wall', 1: 'crane'}
+        """
+        self._lent()
+        return Ids(self)
+
+    def round(self, names: Iterable[Name]) -> List[Optional[int]]:
         """The ids of several names, None for one that has none. Up to 512 are asked for in one call of the library.
 
-        >>> _example().ids(["crane", "mole", b"north wall"])
+        >>> _example().round(["crane", "mole", b"north wall"])
         [1, None, 0]
         """
         image = self._lent()
-        if isinstance(names, (str, bytes, bytearray, memoryview)):
-            raise TypeError("ids takes several names, not one")
+        if isinstance(names, NAMES):
+            raise TypeError("round takes several names, not one")
         wanted = [self._text.encode(name) for name in names]
         found: List[Optional[int]] = []
         for first in range(0, len(wanted), ROUND):
@@ -169,10 +242,10 @@ class Catalogue:
         """The name of an id, of its last put; None where it has none."""
         return self._decoded(self.name_bytes(id))
 
-    def names(self, ids: Iterable[int]) -> List[Optional[str]]:
+    def name_round(self, ids: Iterable[int]) -> List[Optional[str]]:
         """The names of several ids, None for one that has none.
 
-        >>> _example().names([1, 7, 0])
+        >>> _example().name_round([1, 7, 0])
         ['crane', None, 'north wall']
         """
         image = self._lent()
@@ -182,35 +255,24 @@ class Catalogue:
             found.extend(map(self._decoded, name_round(image, wanted[first : first + ROUND])))
         return found
 
+    def name_on(self, id: int, date: Date, windows: Iterable[Window]) -> Optional[str]:
+        """The name of an id on a date: its name where some of the windows has this id and holds the date, otherwise None. CQDBError
+        where a date is not from 1900 to 2199 (22), or a window does not start before its end (23).
+
+        >>> season = [Window(1, Date(2026, 4, 1), Date(2026, 10, 1))]
+        >>> _example().name_on(1, Date(2026, 4, 1), season), _example().name_on(1, Date(2026, 10, 1), season)
+        ('crane', None)
+        """
+        image, lent = self._lent(), lent_windows(windows)
+        answer = calls.cqdb_name_on(image, len(image), id_number(id), day(date), lent, len(lent))
+        accept(answer.refusal)
+        return self._text.decode(image[answer.start : answer.start + answer.len]) if answer.found else None
+
     @property
     def back_size(self) -> int:
         """The largest id that was put, plus 1; 0 where no id can have a name, as in a one-way image."""
         image = self._lent()
         return calls.cqdb_size_hint(image, len(image), 0)
-
-    def __iter__(self) -> Iterator[int]:
-        """The ids that have a name, in rising order.
-
-        >>> list(_example())
-        [0, 1]
-        """
-        image = self._lent()
-        for ids in id_rounds(self.back_size):
-            for id, place in zip(ids, place_round(image, ids)):
-                if place is not None:
-                    yield id
-
-    def items(self) -> Iterator[Tuple[int, str]]:
-        """The ids that have a name, in rising order, with their names.
-
-        >>> list(_example().items())
-        [(0, 'north wall'), (1, 'crane')]
-        """
-        image = self._lent()
-        for ids in id_rounds(self.back_size):
-            for id, name in zip(ids, name_round(image, ids)):
-                if name is not None:
-                    yield id, self._text.decode(name)
 
     def changes(self, other: "Catalogue") -> Iterator[Change]:
         """Each id that has another name in the other catalogue, or a name in one of the two only, in rising order.
@@ -224,8 +286,25 @@ class Catalogue:
         Change(id=1, before='crane', after=None)
         Change(id=2, before=None, after='mole')
         """
-        for id, before, after in changed(self._lent(), other._lent()):
-            yield Change(id, self._decoded(before), other._decoded(after))
+        before, after = self._lent(), _catalogue(other)._lent()
+        found = changed(before, after)
+        return (Change(id, self._decoded(old), other._decoded(new)) for id, old, new in found)
+
+    def moved(self, other: "Catalogue", id: int) -> Optional[int]:
+        """The other id that the name of this id has in the other catalogue; None where the id has no name here, or its name has the
+        same id there, or none. Two ids that exchanged names have both moved, unless a name was put twice.
+
+        >>> from cqdb import Writer
+        >>> writer = Writer()
+        >>> writer.put("north wall", 1)
+        >>> writer.put("crane", 0)
+        >>> after = Catalogue(writer.close())
+        >>> _example().moved(after, 0), _example().moved(after, 1), _example().moved(_example(), 0)
+        (1, 0, None)
+        """
+        before, after = self._lent(), _catalogue(other)._lent()
+        answer = calls.cqdb_moved(before, len(before), after, len(after), id_number(id))
+        return answer.id if answer.found else None
 
     def one_to_one(self) -> OneToOne:
         """Are names and ids one to one? They are where the name of every entry has its id and, in a two-way image, its id has its
@@ -252,24 +331,14 @@ class Catalogue:
         >>> _example().check()
         Check(canonical=True, readings_agree=True, every_name_home=True, one_to_one=True)
         """
-        image = self._lent()
-        return Check(
-            canonical=calls.cqdb_canonical(image, len(image)) == 1,
-            readings_agree=calls.cqdb_readings_agree(image, len(image)) == 1,
-            every_name_home=all(calls.cqdb_home(image, len(image), id) == 1 for id in self),
-            one_to_one=calls.cqdb_one_to_one(image, len(image)).ok == 1,
-        )
+        return checked(self._lent(), self.ids)
 
 
-def _mapped(path: Union[str, "os.PathLike[str]"]) -> Image:
-    """The bytes of a file, mapped; read where it is no regular file or is empty, which cannot be mapped. The map is private and
-    is let go with the array over it."""
-    with open(path, "rb") as file:
-        status = os.fstat(file.fileno())
-        if not stat.S_ISREG(status.st_mode) or status.st_size == 0:
-            return file.read()
-        whole = mmap.mmap(file.fileno(), 0, access=mmap.ACCESS_COPY)
-    return (ctypes.c_char * len(whole)).from_buffer(whole)
+def _catalogue(other: Any) -> Catalogue:
+    """What is given, where it is a catalogue."""
+    if not isinstance(other, Catalogue):
+        raise TypeError(f"a catalogue is compared with a cqdb.Catalogue, not {type(other).__name__}")
+    return other
 
 
 def _example() -> Catalogue:

@@ -4,7 +4,7 @@ from __future__ import annotations
 from typing import Iterator, NamedTuple, Optional, Tuple
 
 from cqdb.library import StrAnswer, calls
-from cqdb.rounds import Image
+from cqdb.memory import Image
 
 
 class Change(NamedTuple):

@@ -4,7 +4,7 @@ from __future__ import annotations
 import ctypes
 import os
 import pathlib
-from ctypes import Structure, c_size_t, c_uint32, c_uint64, c_void_p
+from ctypes import Structure, c_size_t, c_uint8, c_uint16, c_uint32, c_uint64, c_void_p
 from typing import Any, List, Tuple
 
 from cqdb.version import __version__
@@ -30,6 +30,10 @@ class ChangeAnswer(Structure):
     _fields_ = [("found", c_uint32), ("id", c_uint32), ("before", StrAnswer), ("after", StrAnswer)]
 
 
+class MovedAnswer(Structure):
+    _fields_ = [("found", c_uint32), ("id", c_uint32)]
+
+
 class OneToOneAnswer(Structure):
     _fields_ = [("refusal", c_uint32), ("ok", c_uint32), ("kind", c_uint32), ("offset", c_uint32)]
 
@@ -52,7 +56,7 @@ class Record(Structure):
 
 
 class RecordAnswer(Structure):
-    """What put and grown answer."""
+    """What grown answers."""
 
     _fields_ = [("refusal", c_uint32), ("record", Record)]
 
@@ -67,6 +71,36 @@ class BuildAnswer(Structure):
 
 class BuildNeeds(Structure):
     _fields_ = [("bytes", c_uint64), ("words", c_uint64)]
+
+
+class SheetAnswer(Structure):
+    _fields_ = [("refusal", c_uint32), ("counts", c_uint32 * 3), ("starts", c_uint64 * 3)]
+
+
+class LengthAnswer(Structure):
+    """What sheet_write and bundle_append answer."""
+
+    _fields_ = [("refusal", c_uint32), ("length", c_uint64)]
+
+
+class BundleOpenAnswer(Structure):
+    _fields_ = [("refusal", c_uint32), ("num", c_uint32), ("start", c_uint64), ("size", c_uint64)]
+
+
+class BundleCountAnswer(Structure):
+    _fields_ = [("refusal", c_uint32), ("images", c_uint64)]
+
+
+class Date(Structure):
+    _fields_ = [("year", c_uint16), ("month", c_uint8), ("day", c_uint8)]
+
+
+class Window(Structure):
+    _fields_ = [("id", c_uint32), ("first", Date), ("end", Date)]
+
+
+class OnAnswer(Structure):
+    _fields_ = [("refusal", c_uint32), ("found", c_uint32), ("len", c_uint32), ("start", c_uint64)]
 
 
 Counts = c_uint32 * 256
@@ -84,14 +118,23 @@ _FUNCTIONS: List[Tuple[str, Any, List[Any]]] = [
     ("cqdb_one_to_one", OneToOneAnswer, _LENT),
     ("cqdb_readings_agree", c_uint32, _LENT),
     ("cqdb_next_change", ChangeAnswer, _LENT + _LENT + [c_uint64]),
+    ("cqdb_moved", MovedAnswer, _LENT + _LENT + [c_uint32]),
+    ("cqdb_name_on", OnAnswer, _LENT + [c_uint32, Date] + _LENT),
     ("cqdb_round_words", RoundAnswer, _LENT * 4),
     ("cqdb_name_round_words", c_uint32, _LENT * 3),
     ("cqdb_begin_parts", c_uint32, [c_uint32, c_uint32, c_void_p, c_void_p, c_void_p] + _LENT),
-    ("cqdb_put_parts", RecordAnswer, [Record, c_void_p] + _LENT + _LENT + [c_uint32]),
+    ("cqdb_index_words", c_size_t, [c_size_t]),
+    ("cqdb_index_parts", c_uint32, [Record, c_void_p] + _LENT + _LENT),
+    ("cqdb_put_indexed_parts", c_uint32, [c_void_p, c_void_p, c_void_p] + _LENT * 3 + [c_uint32]),
     ("cqdb_close_parts", CloseAnswer, [Record, c_void_p] + _LENT),
     ("cqdb_grown_parts", RecordAnswer, [Record, c_uint64]),
     ("cqdb_build_needs", BuildNeeds, [c_uint32, c_size_t] + _LENT),
     ("cqdb_build_parts", BuildAnswer, [c_uint32, c_uint32] + _LENT * 6),
+    ("cqdb_sheet_read", SheetAnswer, _LENT),
+    ("cqdb_sheet_write", LengthAnswer, _LENT * 4),
+    ("cqdb_bundle_open", BundleOpenAnswer, _LENT + [c_uint64]),
+    ("cqdb_bundle_append", LengthAnswer, _LENT + [c_uint64] + _LENT),
+    ("cqdb_bundle_count", BundleCountAnswer, _LENT),
 ]
 
 

@@ -5,9 +5,10 @@ import enum
 from dataclasses import dataclass
 from typing import Optional, Tuple
 
+from cqdb.entries import id_at, name_at
 from cqdb.library import calls
+from cqdb.memory import Image
 from cqdb.refusal import accept
-from cqdb.rounds import Image
 
 
 class Mismatch(enum.Enum):
@@ -40,7 +41,5 @@ def first_mismatch(image: Image) -> Optional[Tuple[Mismatch, int, int, bytes]]:
     accept(answer.refusal)
     if answer.ok:
         return None
-    at = answer.offset
-    id, length = (int.from_bytes(image[at + place : at + place + 4], "little") for place in (0, 4))
-    # The length word counts the zero byte that follows the name.
-    return Mismatch(answer.kind), at, id, image[at + 8 : at + 7 + length]
+    offset = answer.offset
+    return Mismatch(answer.kind), offset, id_at(image, offset), name_at(image, offset)

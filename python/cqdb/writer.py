@@ -2,18 +2,33 @@
 from __future__ import annotations
 
 import ctypes
-import os
 import threading
-from typing import Union
+from typing import Any, NoReturn
 
 from cqdb.files import replace
 from cqdb.library import Counts, Record, calls
-from cqdb.memory import zeros
-from cqdb.names import Name, Text, id_number
+from cqdb.memory import Path, zeros
+from cqdb.names import Name, Text, choice, id_number
 from cqdb.refusal import Refusal, accept
 
 FIRST_LENGTH = 4_096
+FIRST_NAMES = 64
 LARGEST_IMAGE = 4_294_967_295
+
+
+class _Held:
+    """What a writer holds: its record, counts, buffer, and the words of its index. The library changes them in place, all of them in
+    one call. A larger one takes the place of this as a whole, so an exception at any moment, as that of a signal, leaves a writer
+    whose parts fit each other."""
+
+    __slots__ = ("record", "counts", "buffer", "slots", "names", "parts")
+
+    def __init__(self, record: Record, counts: Any, buffer: Any, slots: Any, names: int) -> None:
+        self.record, self.counts, self.buffer = record, counts, buffer
+        # The index is right whenever no call is under way. Half of it stays empty up to this number of names.
+        self.slots, self.names = slots, names
+        numbers, sizes = ctypes.byref(record), ctypes.byref(record, Record.length.offset)
+        self.parts = (numbers, sizes, counts, buffer, len(buffer), slots, len(slots))
 
 
 class Writer:
@@ -26,35 +41,37 @@ class Writer:
     (2, 2145)
 
     With `one_way` the image names no ids. With `repeats` a name may be put again, as for a prism that is renewed under another
-    id; otherwise that is refused, and each put looks at all earlier names: `cqdb.build` takes a long list in linear time.
+    id; otherwise that is refused. A put takes the same time however many names the writer holds; `cqdb.build` takes a whole list
+    in one call. Threads may put in turn, and the handler of a signal may close a writer, but not put. A writer is neither copied nor
+    pickled: its image is what others are given.
     """
 
     def __init__(
         self, *, one_way: bool = False, repeats: bool = False, encoding: str = "utf-8", errors: str = "surrogateescape"
     ) -> None:
         self._text = Text(encoding, errors)
-        self._lock = threading.Lock()
-        self._counts = Counts()
-        self._buffer = zeros(FIRST_LENGTH)
-        self._record = Record()
-        numbers, sizes = ctypes.byref(self._record), ctypes.byref(self._record, Record.length.offset)
-        accept(
-            calls.cqdb_begin_parts(
-                int(one_way), int(repeats), numbers, sizes, self._counts, self._buffer, FIRST_LENGTH
-            )
-        )
+        # A signal's handler runs inside a call of its thread, so the thread may take the lock again.
+        self._lock = threading.RLock()
+        self._busy = False
+        mode, again = choice("one_way", one_way), choice("repeats", repeats)
+        # Words that are all 0 are the index of a writer without entries.
+        self._held = _Held(Record(), Counts(), zeros(FIRST_LENGTH), _words(FIRST_NAMES), FIRST_NAMES)
+        accept(calls.cqdb_begin_parts(mode, again, *self._held.parts[:5]))
 
     def __len__(self) -> int:
         """The number of names that were put."""
-        return self._record.entries
+        return self._held.record.entries
 
     def __bool__(self) -> bool:
         return True
 
+    def __reduce_ex__(self, protocol: Any) -> NoReturn:
+        raise TypeError("a writer cannot be copied or pickled: its image can, which close gives")
+
     def put(self, name: Name, id: int) -> None:
         """Puts a name, text or any bytes but zero, under an id. A name gives the id of its first put, an id the name of its
         last. CQDBError, and nothing changes, where the name has a zero byte (13), is held and repeats are off (16), or the image
-        would exceed 4,294,967,295 bytes (3).
+        would exceed 4,294,967,295 bytes (3); MemoryError, and nothing changes, where memory cannot be had.
 
         >>> Writer().put("a\\0b", 1)
         Traceback (most recent call last):
@@ -63,41 +80,59 @@ class Writer:
         """
         encoded, number = self._text.encode(name), id_number(id)
         with self._lock:
-            refusal = self._put(encoded, number)
-            if refusal == Refusal.NO_ROOM and self._grow(len(encoded), number):
+            if self._busy:
+                raise RuntimeError("a call of this writer is under way: a signal's handler may close it, but not put")
+            try:
+                self._busy = True
                 refusal = self._put(encoded, number)
+                if refusal == Refusal.NO_ROOM and self._grow(len(encoded), number):
+                    refusal = self._put(encoded, number)
+            finally:
+                self._busy = False
         accept(refusal)
 
     def _put(self, name: bytes, id: int) -> int:
         """One put of the library, and its refusal."""
-        answer = calls.cqdb_put_parts(
-            self._record, self._counts, self._buffer, len(self._buffer), name, len(name), id
-        )
-        self._record = answer.record
-        return answer.refusal
+        held = self._held
+        if held.names <= held.record.entries:
+            held = self._index(2 * held.names)
+        return calls.cqdb_put_indexed_parts(*held.parts, name, len(name), id)
+
+    def _index(self, names: int) -> _Held:
+        """Makes the index anew, for so many names."""
+        held, slots = self._held, _words(names)
+        accept(calls.cqdb_index_parts(held.record, held.counts, held.buffer, len(held.buffer), slots, len(slots)))
+        self._held = larger = _Held(held.record, held.counts, held.buffer, slots, names)
+        return larger
 
     def _grow(self, name_length: int, id: int) -> bool:
-        """Takes a larger buffer with the same entries, where one can hold the image after this put."""
-        record = self._record
-        back = max(record.back, id + 1) if record.mode == 0 else 0
-        needed = record.end + name_length + 9 + 16 * (record.entries + 1) + 4 * back
-        if needed > LARGEST_IMAGE:
+        """Takes a larger buffer with the same entries, where some image can hold this put. It is longer by what the put needs in
+        an image of its own, or more: that is room enough, since the image of now fits the buffer of now."""
+        held = self._held
+        length = held.record.length
+        needed = calls.cqdb_build_needs(held.record.mode, name_length, ctypes.byref(ctypes.c_uint32(id)), 1).bytes
+        if needed > LARGEST_IMAGE or length == LARGEST_IMAGE:
             return False
-        larger = zeros(min(max(needed, 2 * record.length), LARGEST_IMAGE))
-        ctypes.memmove(larger, self._buffer, record.end)
-        grown = calls.cqdb_grown_parts(record, len(larger))
+        larger = _longer(length, needed)
+        ctypes.memmove(larger, held.buffer, held.record.end)
+        grown = calls.cqdb_grown_parts(held.record, len(larger))
         accept(grown.refusal)
-        self._buffer, self._record = larger, grown.record
+        self._held = _Held(grown.record, held.counts, larger, held.slots, held.names)
         return True
 
     def close(self) -> bytes:
         """The image of the names so far. Further names may be put, and it may be closed again."""
         with self._lock:
-            answer = calls.cqdb_close_parts(self._record, self._counts, self._buffer, len(self._buffer))
-            accept(answer.refusal)
-            return ctypes.string_at(self._buffer, answer.size)
+            busy, held = self._busy, self._held
+            try:
+                self._busy = True
+                answer = calls.cqdb_close_parts(held.record, held.counts, held.buffer, len(held.buffer))
+                accept(answer.refusal)
+                return held.buffer[: answer.size]
+            finally:
+                self._busy = busy
 
-    def write(self, path: Union[str, "os.PathLike[str]"]) -> int:
+    def write(self, path: Path) -> int:
         """Closes, and writes the image to a file, whose size it gives. A reader sees the old file or the new one, never a part;
         where it fails, OSError is raised and the old file stays.
 
@@ -109,3 +144,17 @@ class Writer:
         image = self.close()
         replace(path, image)
         return len(image)
+
+
+def _words(names: int) -> Any:
+    """The zeroed words of an index for so many names."""
+    words = calls.cqdb_index_words(names)
+    return (ctypes.c_uint32 * words).from_buffer(zeros(4 * words))
+
+
+def _longer(length: int, needed: int) -> Any:
+    """A buffer that is longer by what is needed; twice as long, if that is more and can be had, so that few are taken."""
+    try:
+        return zeros(min(length + max(length, needed), LARGEST_IMAGE))
+    except MemoryError:
+        return zeros(min(length + needed, LARGEST_IMAGE))

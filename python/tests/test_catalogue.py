@@ -1,4 +1,5 @@
 """Reading: names to ids and ids to names, from bytes and from files."""
+import datetime
 import os
 import pathlib
 import tempfile
@@ -18,26 +19,26 @@ class Reading(unittest.TestCase):
                 self.assertEqual(catalogue[name], id)
                 self.assertEqual(catalogue.name_bytes(id), name)
                 self.assertIn(name, catalogue)
-                self.assertIn(id, catalogue)
+                self.assertIn(id, catalogue.ids)
 
     def test_rounds_are_the_single_answers(self) -> None:
         entries = many(2_000)
         catalogue = cqdb.Catalogue(image_of(entries))
         asked = [name for name, _ in entries] + [b"nobody", b"", b"prism 7"]
-        self.assertEqual(catalogue.ids(asked), [catalogue.get(name) for name in asked])
+        self.assertEqual(catalogue.round(asked), [catalogue.get(name) for name in asked])
         ids = list(range(3_100)) + [4_294_967_295]
-        self.assertEqual(catalogue.names(ids), [catalogue.name(id) for id in ids])
-        self.assertEqual(catalogue.ids([]), [])
-        self.assertEqual(catalogue.names([]), [])
-        self.assertIsNone(catalogue.names([4_294_967_295])[0])
+        self.assertEqual(catalogue.name_round(ids), [catalogue.name(id) for id in ids])
+        self.assertEqual(catalogue.round([]), [])
+        self.assertEqual(catalogue.name_round([]), [])
+        self.assertIsNone(catalogue.name_round([4_294_967_295])[0])
 
-    def test_iteration_passes_gaps(self) -> None:
+    def test_the_ids_pass_gaps(self) -> None:
         for entries in (PRISMS, many(2_000), []):
             image = image_of(entries)
             catalogue = cqdb.Catalogue(image)
             expected = names_by_id(image)
-            self.assertEqual(list(catalogue), sorted(expected))
-            self.assertEqual({id: name.encode("utf-8", "surrogateescape") for id, name in catalogue.items()}, expected)
+            self.assertEqual(list(catalogue.ids), sorted(expected))
+            self.assertEqual({id: name.encode("utf-8", "surrogateescape") for id, name in catalogue.ids.items()}, expected)
             self.assertEqual(catalogue.back_size, max(expected, default=-1) + 1)
 
     def test_text_and_bytes(self) -> None:
@@ -90,30 +91,39 @@ class Reading(unittest.TestCase):
             catalogue["nobody"]
         self.assertEqual((catalogue.get("nobody"), catalogue.get("nobody", 7), catalogue.get("crane", 7)), (None, 7, 1))
         self.assertIsNone(catalogue.name(3))
-        self.assertNotIn(3, catalogue)
-        self.assertNotIn(-1, catalogue)
-        self.assertNotIn(2**40, catalogue)
 
     def test_other_types_are_refused(self) -> None:
         catalogue = cqdb.Catalogue(image_of(PRISMS))
-        for wrong in (7, None, ["crane"]):
-            self.assertRaises(TypeError, catalogue.__getitem__, wrong)
         for wrong in (-1, 2**32):
             self.assertRaises(ValueError, catalogue.name, wrong)
-            self.assertRaises(ValueError, catalogue.names, [wrong])
+            self.assertRaises(ValueError, catalogue.name_round, [wrong])
         self.assertRaises(TypeError, catalogue.name, "crane")
-        self.assertRaises(TypeError, catalogue.ids, "crane")
+        self.assertRaises(TypeError, catalogue.round, "crane")
+        self.assertRaises(TypeError, catalogue.round, [7])
         self.assertRaises(TypeError, cqdb.Catalogue, "text")
         self.assertRaises(TypeError, cqdb.Catalogue, 4_096)
 
     def test_a_one_way_image_names_no_id(self) -> None:
         catalogue = cqdb.Catalogue(image_of(PRISMS, one_way=True))
-        self.assertEqual((catalogue["crane"], catalogue.name(1), list(catalogue), catalogue.back_size), (1, None, [], 0))
+        self.assertEqual((catalogue["crane"], catalogue.name(1), list(catalogue.ids), catalogue.back_size), (1, None, [], 0))
 
     def test_a_closed_catalogue_says_so(self) -> None:
         with cqdb.Catalogue(image_of(PRISMS)) as catalogue:
             self.assertEqual(catalogue["crane"], 1)
-        for call in (lambda: catalogue["crane"], lambda: catalogue.name(1), lambda: list(catalogue), catalogue.check, catalogue.__enter__):
+        asks = [
+            lambda: catalogue["crane"],
+            lambda: catalogue.name(1),
+            lambda: list(catalogue),
+            lambda: len(catalogue),
+            lambda: bool(catalogue),
+            lambda: catalogue.ids,
+            lambda: catalogue.num,
+            lambda: bytes(catalogue),
+            lambda: "crane" in catalogue,
+            catalogue.check,
+            catalogue.__enter__,
+        ]
+        for call in asks:
             self.assertRaisesRegex(ValueError, "closed", call)
         catalogue.close()
         self.assertIn("closed", repr(catalogue))
@@ -127,6 +137,39 @@ class Reading(unittest.TestCase):
         self.assertEqual([(id, new, old) for id, old, new in before.changes(after)], list(after.changes(before)))
         self.assertEqual(list(before.changes(before)), [])
 
+    def test_moved(self) -> None:
+        before, after = cqdb.Catalogue(image_of(PRISMS)), cqdb.Catalogue(image_of([(b"crane", 0), (b"north wall", 1), (b"quay", 9)]))
+        self.assertEqual([before.moved(after, id) for id in (0, 1, 2, 3, 700)], [1, 0, None, None, 9])
+        self.assertEqual([before.moved(before, id) for id in before.ids], [None] * len(before.ids))
+
+    def test_a_comparison_takes_catalogues(self) -> None:
+        catalogue, closed = cqdb.Catalogue(image_of(PRISMS)), cqdb.Catalogue(image_of(PRISMS))
+        closed.close()
+        for wrong in (5, None, "walls.cqdb", image_of(PRISMS), {"crane": 1}):
+            self.assertRaisesRegex(TypeError, "cqdb.Catalogue", catalogue.changes, wrong)
+            self.assertRaisesRegex(TypeError, "cqdb.Catalogue", catalogue.moved, wrong, 0)
+        self.assertRaisesRegex(ValueError, "closed", catalogue.changes, closed)
+        self.assertRaisesRegex(ValueError, "closed", closed.moved, catalogue, 0)
+        self.assertRaises(ValueError, catalogue.moved, catalogue, -1)
+
+    def test_a_name_on_a_date(self) -> None:
+        catalogue = cqdb.Catalogue(image_of(PRISMS))
+        first, end = datetime.date(2026, 4, 1), datetime.date(2026, 10, 1)
+        season = [cqdb.Window(1, first, end), cqdb.Window(3, first, end)]
+        last = end - datetime.timedelta(days=1)
+        self.assertEqual([catalogue.name_on(1, date, season) for date in (first, last, end)], ["crane", "crane", None])
+        self.assertEqual([catalogue.name_on(id, first, season) for id in (0, 3)], [None, None])
+        for refusal, date, windows in (
+            (cqdb.Refusal.NO_SUCH_DATE, datetime.date(1899, 12, 31), season),
+            (cqdb.Refusal.NO_SUCH_DATE, first, [cqdb.Window(9, first, datetime.date(2201, 1, 1))]),
+            (cqdb.Refusal.NOT_BEFORE_END, first, [cqdb.Window(9, first, first)]),
+        ):
+            with self.assertRaises(cqdb.CQDBError) as caught:
+                catalogue.name_on(1, date, windows)
+            self.assertEqual(caught.exception.refusal, refusal)
+        self.assertRaises(TypeError, catalogue.name_on, 1, "2026-04-01", season)
+        self.assertRaises(ValueError, catalogue.name_on, 1, first, [(-1, first, end)])
+
 
 class Files(unittest.TestCase):
     def setUp(self) -> None:
@@ -136,11 +179,12 @@ class Files(unittest.TestCase):
         self.path.write_bytes(image_of(PRISMS))
 
     def test_a_mapped_file_answers_as_its_bytes(self) -> None:
-        for path in (self.path, str(self.path)):
+        for path in (self.path, str(self.path), bytes(self.path)):
             with cqdb.Catalogue.open(path) as catalogue:
-                self.assertEqual(dict(catalogue.items()), dict(cqdb.Catalogue(self.path.read_bytes()).items()))
+                self.assertEqual(catalogue, cqdb.Catalogue(self.path.read_bytes()))
+                self.assertEqual(catalogue.ids, cqdb.Catalogue(self.path.read_bytes()).ids)
                 self.assertEqual(catalogue.name_bytes(5), b"mole \xff")
-                self.assertEqual(catalogue.ids(name for name, _ in PRISMS), [id for _, id in PRISMS])
+                self.assertEqual(catalogue.round(name for name, _ in PRISMS), [id for _, id in PRISMS])
                 self.assertTrue(catalogue.check())
 
     def test_a_replaced_file_stays_as_it_was(self) -> None:
@@ -176,7 +220,7 @@ class Files(unittest.TestCase):
             def read() -> None:
                 try:
                     while True:
-                        if catalogue["prism 1999"] != 2_998 or catalogue.ids(["prism 3"] * 512)[511] != 4:
+                        if catalogue["prism 1999"] != 2_998 or catalogue.round(["prism 3"] * 512)[511] != 4:
                             wrong.append("another answer")
                 except ValueError:
                     pass

@@ -18,16 +18,25 @@ def ask_all(test: unittest.TestCase, image: bytes) -> bool:
         test.assertIn(error.number, (1, 5, 6, 7, 8))
         return False
     names: List[bytes] = [name for name, _ in PRISMS] + [b"nobody"]
-    test.assertEqual(catalogue.ids(names), [catalogue.get(name) for name in names])
+    test.assertEqual(catalogue.round(names), [catalogue.get(name) for name in names])
     ids = [0, 1, 2, 3, 4, 5, 699, 700, 701, 4_294_967_295]
-    test.assertEqual(catalogue.names(ids), [catalogue.name(id) for id in ids])
-    if catalogue.back_size < 10_000:
-        named = dict(catalogue.items())
-        test.assertEqual(list(catalogue), list(named))
-        test.assertEqual([catalogue.name(id) for id in named], list(named.values()))
-        test.assertEqual(len(list(catalogue.changes(cqdb.Catalogue(image_of([]))))), len(named))
-        catalogue.check()
+    test.assertEqual(catalogue.name_round(ids), [catalogue.name(id) for id in ids])
+    ask_as_mappings(test, catalogue, names)
     return True
+
+
+def ask_as_mappings(test: unittest.TestCase, catalogue: cqdb.Catalogue, names: List[bytes]) -> None:
+    """Keys, pairs and lengths are those of the single answers."""
+    listed = list(catalogue)
+    test.assertEqual((len(catalogue), len(set(listed))), (len(listed), len(listed)))
+    test.assertEqual(dict(catalogue.items()), {name: catalogue[name] for name in listed})
+    held = {name.decode("utf-8", "surrogateescape") for name in names if name in catalogue}
+    test.assertLessEqual(held, set(listed), "every name that a lookup finds")
+    named = dict(catalogue.ids.items())
+    test.assertEqual((list(catalogue.ids), len(catalogue.ids)), (list(named), len(named)))
+    test.assertEqual([catalogue.name(id) for id in named], list(named.values()))
+    test.assertEqual(len(list(catalogue.changes(cqdb.Catalogue(image_of([]))))), len(named))
+    catalogue.check()
 
 
 class Damaged(unittest.TestCase):
@@ -73,6 +82,27 @@ class Damaged(unittest.TestCase):
                 changed = with_word(changed, at, rolls.choice(values + [word(image, rolls.randrange(len(image) - 3))]))
             opened += ask_all(self, changed)
         self.assertGreater(opened, 200)
+
+    def test_no_memory_for_a_length_that_the_image_claims(self) -> None:
+        image = image_of([])
+        for table in range(256):
+            image = with_word(image, TABLES + 8 * table + 4, 2**25 - 2)
+        catalogue = cqdb.Catalogue(image)
+        self.assertGreater(catalogue.num, 2**31)
+        for take in (list, sorted, tuple, set, dict):
+            self.assertEqual(len(take(catalogue)), 0)
+            self.assertEqual(len(take(catalogue.ids)), 0)
+        self.assertEqual((len(catalogue), catalogue.num), (0, 256 * (2**24 - 1)))
+
+    def test_tables_that_lie_over_each_other(self) -> None:
+        image = image_of(many(300))
+        tables = [(word(image, TABLES + 8 * t), word(image, TABLES + 8 * t + 4)) for t in range(256)]
+        first = min(offset for offset, _ in tables if offset)
+        for t in range(256):
+            image = with_word(with_word(image, TABLES + 8 * t, first), TABLES + 8 * t + 4, 600)
+        catalogue = cqdb.Catalogue(image)
+        ask_as_mappings(self, catalogue, [name for name, _ in many(300)])
+        self.assertEqual(catalogue, {name.decode(): id for name, id in many(300) if name in catalogue})
 
     def test_bytes_behind_an_image_do_not_matter_to_reading(self) -> None:
         catalogue = cqdb.Catalogue(image_of(PRISMS) + b"behind")

@@ -7,6 +7,7 @@ import subprocess
 import sys
 import tempfile
 import unittest
+from typing import Any, Tuple
 from unittest import mock
 
 import cqdb
@@ -19,6 +20,7 @@ STRUCTS = {
     "cqdb_id_answer": library.IdAnswer,
     "cqdb_str_answer": library.StrAnswer,
     "cqdb_change_answer": library.ChangeAnswer,
+    "cqdb_moved_answer": library.MovedAnswer,
     "cqdb_one_to_one_answer": library.OneToOneAnswer,
     "cqdb_round_answer": library.RoundAnswer,
     "cqdb_record": library.Record,
@@ -26,13 +28,29 @@ STRUCTS = {
     "cqdb_close_parts_answer": library.CloseAnswer,
     "cqdb_build_answer": library.BuildAnswer,
     "cqdb_build_needs_answer": library.BuildNeeds,
+    "cqdb_sheet_answer": library.SheetAnswer,
+    "cqdb_sheet_length_answer": library.LengthAnswer,
+    "cqdb_bundle_append_answer": library.LengthAnswer,
+    "cqdb_bundle_open_answer": library.BundleOpenAnswer,
+    "cqdb_bundle_count_answer": library.BundleCountAnswer,
+    "cqdb_date": library.Date,
+    "cqdb_window": library.Window,
+    "cqdb_on_answer": library.OnAnswer,
 }
 TYPES = {
+    ctypes.c_uint8: "uint8_t",
+    ctypes.c_uint16: "uint16_t",
     ctypes.c_uint32: "uint32_t",
     ctypes.c_uint64: "uint64_t",
     library.Record: "cqdb_record",
     library.StrAnswer: "cqdb_str_answer",
+    library.Date: "cqdb_date",
 }
+
+
+def declared(kind: Any) -> Tuple[str, str]:
+    """A field's type in C, and its length where it is an array."""
+    return (TYPES[kind._type_], f"[{kind._length_}]") if hasattr(kind, "_length_") else (TYPES[kind], "")
 
 
 class Header(unittest.TestCase):
@@ -40,8 +58,9 @@ class Header(unittest.TestCase):
         for name, struct in STRUCTS.items():
             found = re.search(r"typedef struct \{([^}]*)\} " + name + ";", HEADER)
             assert found is not None, name
-            fields = re.findall(r"^ *(\w+) (\w+);", found.group(1), re.MULTILINE)
-            self.assertEqual([(TYPES[kind], field) for field, kind in struct._fields_], fields, name)
+            fields = re.findall(r"^ *(\w+) (\w+)(\[\d+\])?;", found.group(1), re.MULTILINE)
+            expected = [(declared(kind)[0], field, declared(kind)[1]) for field, kind in struct._fields_]
+            self.assertEqual(expected, fields, name)
 
     def test_functions(self) -> None:
         plain = re.sub(r"/\*.*?\*/", "", HEADER, flags=re.DOTALL)
@@ -50,11 +69,12 @@ class Header(unittest.TestCase):
             assert found is not None, name
             given = [] if found.group(2) == "void" else found.group(2).split(",")
             kinds = ["pointer" if "*" in part else part.split()[0] for part in given]
-            declared = {ctypes.c_void_p: "pointer", ctypes.c_size_t: "size_t", **TYPES}
+            known = {ctypes.c_void_p: "pointer", ctypes.c_size_t: "size_t", **TYPES}
             # c_size_t and c_uint64 are one type of ctypes on x86-64
             words = [kind.replace("uint64_t", "size_t") for kind in kinds]
-            self.assertEqual([declared[kind].replace("uint64_t", "size_t") for kind in arguments], words, name)
-            self.assertTrue(found.group(1) == TYPES.get(result) or STRUCTS.get(found.group(1)) is result, name)
+            self.assertEqual([known[kind].replace("uint64_t", "size_t") for kind in arguments], words, name)
+            answer = found.group(1).replace("size_t", "uint64_t")
+            self.assertTrue(answer == TYPES.get(result) or STRUCTS.get(answer) is result, name)
 
 
 class Loading(unittest.TestCase):

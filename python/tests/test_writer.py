@@ -7,6 +7,8 @@ import stat
 import tempfile
 import threading
 import unittest
+from typing import List
+from unittest import mock
 
 import cqdb
 from tests.images import PRISMS, image_of, many
@@ -34,7 +36,7 @@ class Puts(unittest.TestCase):
         writer.put("crane", 5)
         writer.put("crane", 9)
         catalogue = cqdb.Catalogue(writer.close())
-        self.assertEqual((len(catalogue), catalogue["crane"], catalogue.name(9)), (2, 5, "crane"))
+        self.assertEqual((catalogue.num, catalogue, catalogue.name(9)), (2, {"crane": 5}, "crane"))
 
     def test_arguments(self) -> None:
         writer = cqdb.Writer()
@@ -91,7 +93,7 @@ class Puts(unittest.TestCase):
         catalogue = cqdb.Catalogue(writer.close())
         self.assertEqual(len(catalogue), 2_000)
         self.assertTrue(catalogue.check())
-        self.assertEqual(catalogue.ids(f"name {i}" for i in range(2_000)), list(range(2_000)))
+        self.assertEqual(catalogue.round(f"name {i}" for i in range(2_000)), list(range(2_000)))
 
     def test_an_error_can_be_sent_to_another_process(self) -> None:
         error = pickle.loads(pickle.dumps(cqdb.CQDBError(16, "walls.cqdb")))
@@ -143,11 +145,54 @@ class Files(unittest.TestCase):
 
     def test_where_it_fails_the_old_file_stays(self) -> None:
         self.path.write_bytes(b"old")
-        (self.folder / f"walls.cqdb.{os.getpid()}.new").write_bytes(b"in the way")
-        self.assertRaises(FileExistsError, self.writer.write, self.path)
-        self.assertEqual(self.path.read_bytes(), b"old")
+        with mock.patch("os.fsync", side_effect=OSError("no space")):
+            self.assertRaisesRegex(OSError, "no space", self.writer.write, self.path)
+        self.assertEqual((self.path.read_bytes(), os.listdir(self.folder)), (b"old", ["walls.cqdb"]))
         self.assertRaises(OSError, self.writer.write, self.folder)
         self.assertRaises(FileNotFoundError, self.writer.write, self.folder / "no such" / "walls.cqdb")
+
+    def test_a_path_that_names_no_file(self) -> None:
+        before = os.listdir()
+        self.assertRaises(FileNotFoundError, self.writer.write, "")
+        self.assertRaises(IsADirectoryError, self.writer.write, str(self.path) + "/")
+        self.assertRaises(TypeError, self.writer.write, 1)
+        self.assertEqual((os.listdir(self.folder), os.listdir()), ([], before))
+
+    def test_a_path_of_bytes_and_a_name_as_long_as_a_name_may_be(self) -> None:
+        for name in (b"walls.cqdb", b"w" * 255):
+            self.writer.write(bytes(self.folder) + b"/" + name)
+        self.assertEqual(sorted(os.listdir(self.folder)), ["walls.cqdb", "w" * 255])
+
+    def test_a_file_that_was_left_behind_is_not_in_the_way(self) -> None:
+        drawn = iter(["left", "left", "new"])
+        (self.folder / "walls.cqdb.left.new").write_bytes(b"left behind")
+        with mock.patch("secrets.token_hex", lambda size: next(drawn)):
+            self.writer.write(self.path)
+        self.assertEqual(self.path.read_bytes(), self.writer.close())
+        self.assertEqual((self.folder / "walls.cqdb.left.new").read_bytes(), b"left behind")
+
+    def test_threads_write_to_one_place(self) -> None:
+        failed: List[BaseException] = []
+
+        def write() -> None:
+            try:
+                for _ in range(20):
+                    self.writer.write(self.path)
+            except BaseException as error:
+                failed.append(error)
+
+        threads = [threading.Thread(target=write) for _ in range(4)]
+        for thread in threads:
+            thread.start()
+        for thread in threads:
+            thread.join()
+        self.assertEqual((failed, os.listdir(self.folder), self.path.read_bytes()), ([], ["walls.cqdb"], self.writer.close()))
+
+    def test_a_folder_that_may_not_be_read_is_no_failure(self) -> None:
+        opened = os.open
+        with mock.patch("os.open", lambda path, flags, *rest: opened(path, flags, *rest) if flags & os.O_CREAT else opened("/no such", flags)):
+            self.assertEqual(self.writer.write(self.path), len(self.writer.close()))
+        self.assertEqual(self.path.read_bytes(), self.writer.close())
 
 
 if __name__ == "__main__":
