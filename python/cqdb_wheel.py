@@ -15,7 +15,7 @@ ROOT = pathlib.Path(__file__).resolve().parent.parent
 MODULE = ROOT / "python" / "cqdb"
 ARCHIVE = ROOT / "target" / "staticlib" / "libcqdb_c.a"
 SHARED = ROOT / "target" / "staticlib" / "libcqdb.so.0"
-TAG = "py3-none-linux_x86_64"
+PLATFORM = "linux_x86_64"
 Settings = Optional[Dict[str, Any]]
 
 
@@ -29,19 +29,21 @@ def prepare_metadata_for_build_wheel(metadata_directory: str, config_settings: S
     folder = pathlib.Path(metadata_directory) / f"lithwennog-{_version()}.dist-info"
     folder.mkdir()
     (folder / "METADATA").write_bytes(_metadata())
-    (folder / "WHEEL").write_bytes(_wheel())
+    (folder / "WHEEL").write_bytes(_wheel(_platform(config_settings)))
     return folder.name
 
 
 def build_wheel(wheel_directory: str, config_settings: Settings = None, metadata_directory: Optional[str] = None) -> str:
-    """Makes the wheel in a folder, and gives its file's name."""
+    """Makes the wheel in a folder, and gives its file's name. It is for this platform, or for those that the setting
+    `platform` names, joined by full stops, as packaging/release finds them."""
     _make_library()
+    platform = _platform(config_settings)
     about = f"lithwennog-{_version()}.dist-info"
     files = [(f"cqdb/{file.name}", file.read_bytes()) for file in sorted(MODULE.glob("*.py")) + [MODULE / "py.typed", SHARED]]
     files += [(f"{about}/{name}", (ROOT / name).read_bytes()) for name in ("LICENSE", "NOTICE")]
-    files += [(f"{about}/METADATA", _metadata()), (f"{about}/WHEEL", _wheel())]
+    files += [(f"{about}/METADATA", _metadata()), (f"{about}/WHEEL", _wheel(platform))]
     files.append((f"{about}/RECORD", _record(files, f"{about}/RECORD")))
-    wheel = f"lithwennog-{_version()}-{TAG}.whl"
+    wheel = f"lithwennog-{_version()}-py3-none-{platform}.whl"
     with zipfile.ZipFile(pathlib.Path(wheel_directory) / wheel, "w", zipfile.ZIP_DEFLATED) as out:
         for name, content in files:
             # The same files make the same wheel, whenever it is made.
@@ -101,8 +103,13 @@ def _metadata() -> bytes:
     return "".join(f"{line}\n" for line in lines).encode()
 
 
-def _wheel() -> bytes:
-    return f"Wheel-Version: 1.0\nGenerator: lithwennog\nRoot-Is-Purelib: false\nTag: {TAG}\n".encode()
+def _platform(config_settings: Settings) -> str:
+    return str((config_settings or {}).get("platform", PLATFORM))
+
+
+def _wheel(platform: str) -> bytes:
+    tags = "".join(f"Tag: py3-none-{one}\n" for one in platform.split("."))
+    return f"Wheel-Version: 1.0\nGenerator: lithwennog\nRoot-Is-Purelib: false\n{tags}".encode()
 
 
 def _record(files: List[Tuple[str, bytes]], itself: str) -> bytes:
