@@ -31,7 +31,7 @@
    calls without a number take less than 1 KB.
 
      call                            time for each                            4,096   100,000   stack
-     average                         entry                                       24        38       6
+     average                         entry                                       23        40       2
      begin                           call                                        14
      build, 3 words for each name    name                                        23        39      41
      build, 6 words for each name    name                                        13        18      41
@@ -42,7 +42,7 @@
      bundle_append                   image of 157,720 bytes, its copy         2,684
      bundle_count                    image                                      1.9
      bundle_open                     image up to the one that is opened         2.5
-     canonical                       entry                                       12        17       6
+     canonical                       entry                                       10        19       2
      close                           entry                                       11        16      39
      grown                           call                                       2.7
      hash                            name of 9 bytes                            3.8
@@ -50,14 +50,14 @@
      home                            call                                        12        31
      index                           entry                                      9.9        17       2
      index_words                     call                                       1.3
-     lengths                         entry                                       24        38       6
+     lengths                         entry                                       22        40       2
      load                            load of 4,096 entries                  124,275                39
      moved                           call                                        15        34
      name_on                         call with one window                        10
      name_on                         window of a thousand                       3.3
      name_round                      id                                         1.3       2.7
      next_change                     id up to the change                        2.9       2.9
-     one_to_one                      entry                                       26        41       6
+     one_to_one                      entry                                       25        43       2
      open                            call                                        88        88
      page                            line                                       6.9       7.8
      page_length                     call                                       1.6       1.6

@@ -218,7 +218,7 @@ fn misplaced(run: &mut Run, random: &mut Random, image: &[u8], puts: &[Put]) {
     run.expect(false, &spoilt, "a name with a zero byte");
 }
 
-// An image of more than 1 MiB, where the buckets are read ahead, and damaged copies of it.
+// An image of more than 1 MiB, and damaged copies of it.
 fn large(run: &mut Run, random: &mut Random) {
     let puts: Vec<Put> = (0..32_000).map(|i| (format!("prism {i:06}").into_bytes(), random.below(32_000) as u32)).collect();
     let image = lists(run, random, &puts);

@@ -46,29 +46,39 @@ entering-start {img} {end} {entries} {two} {o} {counts₀} p = record {
   few = omega arith;
 }
 
+-- what a turn of the loop reads of the entry at `at`, and what the two checks of it answer
+pub record EntryRead (img : List ℕ) (end : ℕ) (two : Bool) (o at n h id w : ℕ) (linked named : Bool) : Type 0 where
+  pub length-is : n ≡ wholeLength (between img at end)
+  pub whole : n ≡ 0 → ⊥
+  pub hash-is : h ≡ hashOf (entryName img at n)
+  pub id-is : id ≡ word img at
+  pub link-is : w ≡ word img (o + 4 * id)
+  pub linked-is : linked ≡ notBefore two at w
+  pub named-is : named ≡ nameOk img at (entryName img at n)
+
 module _ {img : List ℕ} {end entries : ℕ} {two : Bool} {o : ℕ} {counts₀ : List ℕ} {at left back linked : ℕ} {counts : List ℕ}
-    (e : Entering img end entries two o counts₀ at left back linked counts) (k : end ≤ length img) (some : 0 < left) (n : ℕ)
-    (is : n ≡ wholeLength (between img at end)) where
-  pub entering-broken : n ≡ 0 → {counts₁ : List ℕ} → EntriesFound img end entries two o counts₀ counts₁ (record { valid = false; back = 0; linked = 0 })
-  entering-broken z =
+    (e : Entering img end entries two o counts₀ at left back linked counts) (k : end ≤ length img) (some : 0 < left) where
+  pub entering-broken : (n : ℕ) → n ≡ wholeLength (between img at end) → n ≡ 0 → {counts₁ : List ℕ}
+      → EntriesFound img end entries two o counts₀ counts₁ (record { valid = false; back = 0; linked = 0 })
+  entering-broken n is z =
       not-valid
       (ap (λ (b : Bool). b && entriesOk img two o (placedFrom img end entries 2072))
       (walk-broken img end entries counts₀ at left back counts (e .rest) some (sym z ∙ is)))
 
-  module _ (nz : n ≡ 0 → ⊥) where
-    there : Front (between img at end) n
-    there = front (between img at end) n is nz
+  pub entering-inside : (n : ℕ) → n ≡ wholeLength (between img at end) → (n ≡ 0 → ⊥) → EntryRoom img at end n
+  entering-inside n is nz = entry-room img at end n (e .rest .inside) k is nz
 
-    pub entering-inside : EntryRoom img at end n
-    entering-inside = entry-room img at end n (e .rest .inside) k is nz
+  module _ {n h id w : ℕ} {p q : Bool} (r : EntryRead img end two o at n h id w p q) where
+    there : Front (between img at end) n
+    there = front (between img at end) n (r .length-is) (r .whole)
 
     name-is : firstEntry (between img at end) .name ≡ entryName img at n
     name-is = first-name img at end n (left - 1) (e .rest .inside) k there
 
     size-is : entrySize (firstEntry (between img at end)) ≡ 8 + n
     size-is =
-        omega
-        (arith, ap length name-is, length-take (n - 1) (drop (at + 8) img), length-drop (at + 8) img, entering-inside .name .inside, entering-inside .name .some)
+        let room = entering-inside n (r .length-is) (r .whole) .name in
+        omega (arith, ap length name-is, length-take (n - 1) (drop (at + 8) img), length-drop (at + 8) img, room .inside, room .some)
 
     later : List Placed
     later = placedFrom img end (left - 1) (at + (8 + n))
@@ -82,44 +92,43 @@ module _ {img : List ℕ} {end entries : ℕ} {two : Bool} {o : ℕ} {counts₀ 
         ∙ ap (placed at) (entries-rest img at end n (left - 1) (e .rest .inside) k there)
         ∙ ap (λ (j : ℕ). record { entry = firstEntry (between img at end); at = at } ∷ placed (at + j) rest) size-is
 
-    -- the entry's link w
-    module _ (id w : ℕ) (ei : id ≡ word img at) (ew : w ≡ word img (o + 4 * id)) where
-      link-is : word img (o + 4 * firstEntry (between img at end) .id) ≡ w
-      link-is =
-          ap (λ (i : ℕ). word img (o + 4 * i)) (first-id img at end n (left - 1) (e .rest .inside) k there ∙ sym ei) ∙ sym ew
+    link-is : word img (o + 4 * firstEntry (between img at end) .id) ≡ w
+    link-is =
+        ap (λ (i : ℕ). word img (o + 4 * i)) (first-id img at end n (left - 1) (e .rest .inside) k there ∙ sym (r .id-is))
+        ∙ sym (r .link-is)
 
-      module _ (p q : Bool) (ep : p ≡ notBefore two at w) (eq : q ≡ nameOk img at (entryName img at n)) where
-        entries-step : entriesOk img two o (placedFrom img end left at) ≡ (p && q && entriesOk img two o later)
-        unfolding entriesOk
-        entries-step =
-            ap (entriesOk img two o) step
-            ∙ ap₂ (λ (v : ℕ) (name : List ℕ). notBefore two at v && nameOk img at name && entriesOk img two o later) link-is name-is
-            ∙ ap₂ (λ (x y : Bool). x && y && entriesOk img two o later) (sym ep) (sym eq)
+    entries-step : entriesOk img two o (placedFrom img end left at) ≡ (p && q && entriesOk img two o later)
+    unfolding entriesOk
+    entries-step =
+        ap (entriesOk img two o) step
+        ∙ ap₂ (λ (v : ℕ) (name : List ℕ). notBefore two at v && nameOk img at name && entriesOk img two o later) link-is name-is
+        ∙ ap₂ (λ (x y : Bool). x && y && entriesOk img two o later) (sym (r .linked-is)) (sym (r .named-is))
 
-        pub entering-wrong : (p && q) ≡ false → {counts₁ : List ℕ}
-            → EntriesFound img end entries two o counts₀ counts₁ (record { valid = false; back = 0; linked = 0 })
-        entering-wrong z =
-            not-valid
-            (no-second (whole entries (between img 2072 end)) (entriesOk img two o (placedFrom img end entries 2072))
-            (sym (entries-step ∙ ap (λ (b : Bool). b && entriesOk img two o later) z) ∙ e .valid-same))
-          where
-            no-second : (a b : Bool) → false ≡ b → false ≡ (a && b)
-            no-second true b h = h
-            no-second false b h = refl
+    pub entering-wrong : (p && q) ≡ false → {counts₁ : List ℕ}
+        → EntriesFound img end entries two o counts₀ counts₁ (record { valid = false; back = 0; linked = 0 })
+    entering-wrong z =
+        not-valid
+        (no-second (whole entries (between img 2072 end)) (entriesOk img two o (placedFrom img end entries 2072))
+        (sym (entries-step ∙ ap (λ (b : Bool). b && entriesOk img two o later) z) ∙ e .valid-same))
+      where
+        no-second : (a b : Bool) → false ≡ b → false ≡ (a && b)
+        no-second true b h = h
+        no-second false b h = refl
 
-        pub entering-next : (p && q) ≡ true → (h b : ℕ) (counts₁ : List ℕ) → h ≡ hashOf (entryName img at n) → n < 4294967296 → id < 4294967296
-            → OneIf w at b → counts₁ ≡ raisedCounts counts h
-            → Entering img end entries two o counts₀ (at + (8 + n)) (left - 1) (max back (id + 1)) (linked + b) counts₁
-        unfolding later selfLinksIn
-        entering-next y h b counts₁ eh small idsmall one ec = record {
-          rest = walk-step img end entries counts₀ at left back counts k (e .rest) some n h id (entryName img at n) counts₁ there small idsmall refl eh ei ec;
-          valid-same = sym (entries-step ∙ ap (λ (b : Bool). b && entriesOk img two o later) y) ∙ e .valid-same;
-          linked-same =
-              let t : selfLinksIn img o (placedFrom img end left at) ≡ cond (eqb w at) 1 0 + selfLinksIn img o later =
-              ap (selfLinksIn img o) step ∙ ap (λ (v : ℕ). cond (eqb v at) 1 0 + selfLinksIn img o later) link-is in
-              omega (arith, one .is, e .linked-same);
-          few = omega (arith, one .most, e .few);
-        }
+    pub entering-next : (p && q) ≡ true → (b : ℕ) (counts₁ : List ℕ) → n < 4294967296 → id < 4294967296 → OneIf w at b → counts₁ ≡ raisedCounts counts h
+        → Entering img end entries two o counts₀ (at + (8 + n)) (left - 1) (max back (id + 1)) (linked + b) counts₁
+    unfolding later selfLinksIn
+    entering-next y b counts₁ small idsmall one ec = record {
+      rest =
+          walk-step img end entries counts₀ at left back counts k (e .rest) some n h id (entryName img at n) counts₁ there small idsmall refl (r .hash-is)
+          (r .id-is) ec;
+      valid-same = sym (entries-step ∙ ap (λ (b : Bool). b && entriesOk img two o later) y) ∙ e .valid-same;
+      linked-same =
+          let t : selfLinksIn img o (placedFrom img end left at) ≡ cond (eqb w at) 1 0 + selfLinksIn img o later =
+          ap (selfLinksIn img o) step ∙ ap (λ (v : ℕ). cond (eqb v at) 1 0 + selfLinksIn img o later) link-is in
+          omega (arith, one .is, e .linked-same);
+      few = omega (arith, one .most, e .few);
+    }
 
 pub entering-end : {img : List ℕ} {end entries : ℕ} {two : Bool} {o : ℕ} {counts₀ : List ℕ} {at back linked : ℕ} {counts : List ℕ}
     → Entering img end entries two o counts₀ at 0 back linked counts → end ≤ length img

@@ -19,6 +19,5 @@ pub mod Theorem
 pub mod Rows
 pub mod TableLoops
 pub mod EntryBuckets
-pub mod CachedEntries
 pub mod EntryLoop
 pub mod Decision

@@ -3,5 +3,4 @@ pub mod HiddenBuckets
 pub mod Made
 pub mod InPlace
 pub mod Checks
-pub mod Cache
 pub mod Contracts

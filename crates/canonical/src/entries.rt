@@ -1,11 +1,10 @@
 // One walk over the entries. Each is whole, its name has no zero byte, it is in the bucket that its put took, and in
-// a two-way image its id's word in the back array (the back word) is not below its offset. The table before a put is
-// the finished one without the entries from that put on, which are those with an offset from its own on.
+// a two-way image its id's link, the word in the back array, is not below its offset. A put took the first bucket of
+// its probe sequence that was empty then. Offsets rise in put order, so in the finished table that bucket is the first
+// that is empty or has an offset at or after the entry's own.
 ghost use mathlib.Core.Path.{_≡_};
 ghost use Rattle.canonical.specs.steps.Checks.{TablesHeld, inItsBucket, entryName, nameOk, notBefore};
-ghost use Rattle.canonical.specs.steps.Contracts.{InBucketPre, CheckEntryPre, OneIf};
-ghost use Rattle.canonical.specs.steps.Contracts.{CheckEntriesPre, EntriesFound};
-use super::prefetch::prefetch;
+ghost use Rattle.canonical.specs.steps.Contracts.{CheckEntryPre, OneIf, CheckEntriesPre, EntriesFound};
 use image::HEAD_SIZE;
 use image::entries::larger;
 use image::entries::name_at;
@@ -18,6 +17,7 @@ use image::rows::bucket_number;
 use image::rows::table_at;
 use image::size_at;
 use image::zero::has_zero;
+use jhash::hash_or_zero;
 use jhash::word::word;
 
 // Is an entry of hash h at `at` in the bucket that its put took?
@@ -37,32 +37,18 @@ fn in_its_bucket(image: &[u8], h: u32, at: u32) -> bool
     word(image, o + 8 * k + 4) == at
 }
 
-// The same, by the cached place and word of the first bucket of its probe sequence: most entries are in that bucket.
-fn in_bucket_cached(image: &[u8], h: u32, at: u32, bucket_place: usize, first: u32) -> bool
-    requires { ⌜ InBucketPre (now image) h «bucket_place» first ⌝ }
-    ensures { λ r. ⌜ r ≡ inItsBucket (now (image .entry)) h at ⌝ }
-{
-    if bucket_place == 0 {
-        return false;
-    }
-    if first == at {
-        return get_u32(image, bucket_place - 4) == h;
-    }
-    in_its_bucket(image, h, at)
-}
-
-// Has the name of the entry at `at`, whose length word is n, no zero byte, and is the entry in its bucket?
-fn check_entry(image: &[u8], at: usize, n: usize, h: u32, bucket_place: usize, first: u32) -> bool
-    requires { ⌜ CheckEntryPre (now image) at n h «bucket_place» first ⌝ }
+// Has the name of the entry at `at`, whose length word is n and hash h, no zero byte, and is the entry in its bucket?
+fn check_entry(image: &[u8], at: usize, n: usize, h: u32) -> bool
+    requires { ⌜ CheckEntryPre (now image) at n h ⌝ }
     ensures { λ r. ⌜ r ≡ nameOk (now (image .entry)) at (entryName (now (image .entry)) at n) ⌝ }
 {
     if has_zero(name_at(image, at, n)) {
         return false;
     }
-    in_bucket_cached(image, h, at as u32, bucket_place, first)
+    in_its_bucket(image, h, at as u32)
 }
 
-// Is the back word w not below the entry's offset `at`? A one-way image has no back words.
+// Is the link w not below the entry's offset `at`? A one-way image has no links.
 fn not_before(two: bool, at: usize, w: u32) -> bool
     ensures { λ r. ⌜ r ≡ notBefore two at w ⌝ }
 {
@@ -76,8 +62,7 @@ fn one_if_equal(w: u32, at: usize) -> u64
     if w as usize == at { 1 } else { 0 }
 }
 
-// What the walk found: whether the entries are valid, their back size, and how many of them have their offset in their
-// back word.
+// What the walk found: whether the entries are valid, their back size, and how many of them their id's link points to.
 pub struct EntriesChecked {
     pub valid: bool,
     pub back: u64,
@@ -102,20 +87,7 @@ pub(super) fn check_entries(
     let mut left = entries;
     let mut back: u64 = 0;
     let mut linked: u64 = 0;
-    let mut hashes = [0; 256];
-    let mut bucket_places = [0; 256];
-    let mut firsts = [0; 256];
-    let mut cached: usize = 0;
     while left > 0 {
-        cached = prefetch(
-            image,
-            at,
-            end,
-            cached,
-            &mut hashes,
-            &mut bucket_places,
-            &mut firsts,
-        );
         let n = whole_length(image, at, end);
         if n == 0 {
             return EntriesChecked {
@@ -124,11 +96,10 @@ pub(super) fn check_entries(
                 linked: 0,
             };
         }
-        let i = 256 - cached;
-        let h = hashes[i];
+        let h = hash_or_zero(name_at(image, at, n));
         let id = size_at(image, at);
         let w = get_u32(image, o + 4 * id);
-        if !(not_before(two, at, w) & check_entry(image, at, n, h, bucket_places[i], firsts[i])) {
+        if !(not_before(two, at, w) & check_entry(image, at, n, h)) {
             return EntriesChecked {
                 valid: false,
                 back: 0,
@@ -140,7 +111,6 @@ pub(super) fn check_entries(
         linked += one_if_equal(w, at);
         at += 8 + n;
         left -= 1;
-        cached -= 1;
     }
     EntriesChecked {
         valid: at == end,

@@ -19,8 +19,7 @@ use tables::count_used;
 use tables::counts_match;
 use tables::offset_of;
 
-mod entries; // entries.rt: one walk over the entries, each compared with its bucket and its back word
-mod prefetch; // prefetch.rt: hashes and first buckets of the next entries
+mod entries; // entries.rt: one walk over the entries, each compared with its bucket and its link
 mod tables; // tables.rt: the rows of the head, and the tables
 
 // The back size that an image has by its mode, if that of its entries is `back`.
@@ -31,8 +30,8 @@ fn back_for(two: bool, back: u64) -> u64
 }
 
 // Is all behind the head valid, if the entries end at `end`? The rows come first: a table is read only if its row has
-// the right offset, so that no byte is read as part of two tables. Each back word is the offset of its id's last
-// entry: no entry's back word is below its offset, and as many back words are not 0 as entries have their offset there.
+// the right offset, so that no byte is read as part of two tables. Each link is the offset of its id's last entry: no
+// entry is behind its id's link, and as many links are not 0 as entries have a link that points to them.
 fn check_body(image: &[u8], n: u32, end: usize, back: usize) -> bool
     requires { ⌜ CheckBodyPre (now image) end back ⌝ }
     ensures { λ r. ⌜ r ≡ bodyOk (now (image .entry)) n end back ⌝ }
@@ -60,7 +59,7 @@ fn check_body(image: &[u8], n: u32, end: usize, back: usize) -> bool
 }
 
 // Is an image that opens, with n entries, canonical? Its size says where the entries end: 16 bytes of tables for each
-// entry and 4 for each back word are behind them.
+// entry and 4 for each link are behind them.
 fn check_opened(image: &[u8], n: u32) -> bool
     requires { ⌜ opening (now image) ≡ value n ⌝ }
     ensures { λ r. ⌜ r ≡ canonical (now (image .entry)) ⌝ }
@@ -88,9 +87,8 @@ fn check_opened(image: &[u8], n: u32) -> bool
 pub fn is_canonical(image: &[u8]) -> bool
     ensures { λ r. ⌜ r ≡ canonical (now (image .entry)) ⌝ }
 {
-    let opened = reader::open(image);
-    match opened {
-        Opened::Num(n) => check_opened(image, n),
-        Opened::Refused(k) => false,
-    }
+    let Opened::Num(n) = reader::open(image) else {
+        return false;
+    };
+    check_opened(image, n)
 }

@@ -97,20 +97,20 @@ pub(super) fn check_rows(image: &[u8], end: usize) -> bool
     true
 }
 
-// Twice a count.
-fn twice(c: u32) -> usize
+// How many buckets a table of c entries has.
+fn buckets_for(c: u32) -> usize
     ensures { λ r. ⌜ r ≡ 2 * c ⌝ }
 {
     2 * (c as usize)
 }
 
-// Has each table twice as many buckets as its count?
+// Has each table the buckets that its count asks for?
 pub(super) fn counts_match(image: &[u8], counts: &[u32; 256]) -> bool
     ensures { λ r. ⌜ r ≡ countsMatch (now (image .entry)) (now (counts .entry)) ⌝ }
 {
     let mut t: usize = 0;
     while t < 256 {
-        if row_number(image, t) != twice(counts[t]) {
+        if row_number(image, t) != buckets_for(counts[t]) {
             return false;
         }
         t += 1;

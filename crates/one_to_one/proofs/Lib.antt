@@ -5,4 +5,6 @@ pub mod Answers
 pub mod Puts
 pub mod Pairs
 pub mod Theorem
+pub mod Exchanges
 pub mod Rows
+pub mod MissedExchange

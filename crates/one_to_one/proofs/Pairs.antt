@@ -139,25 +139,40 @@ module _ (img : List ℕ) (m : Made img) where
           let d = made-mode img m ∙ t in
           let s : some (e .name) ≡ some (f .name) = sym (p .gives d) ∙ ap (nameGiven img) h ∙ q .gives d in cc
 
+  -- where no name has two ids, an entry's name finds its id
+  pub own-found : OneId (m .puts) → (e : Entry) → List·Memᴰ e (m .puts) → foundId (lookup img (e .name)) ≡ some (e .id)
+  own-found ids e i =
+      let all = at-one (λ (x : Entry). All (SameId x) (m .puts)) e (m .puts) ids i in
+      let first = name-first (m .puts) e i in
+      let f = first-entry (m .puts) (SameId e) all (e .name) (first .0) (first .1) in
+      finds-first (e .name) ∙ first .1 ∙ ap {B = Option ℕ} some (sym (f .3) ∙ sym (f .1 (sym (f .2))))
+
   pub one-yes : OneId (m .puts) → (m .mode ≡ Twoway → OneName (m .puts)) → oneToOne img ≡ value none
   one-yes ids names =
       paired-yes img (canonical-yes img m)
       (rw (made-puts img m)
-      (all-map (λ (e : Entry) (i : List·Memᴰ e (m .puts)). record { finds = finds e i; gives = λ t. gives t e i }) (m .puts) (each-in (m .puts))))
+      (all-map (λ (e : Entry) (i : List·Memᴰ e (m .puts)). record { finds = own-found ids e i; gives = λ t. gives t e i }) (m .puts) (each-in (m .puts))))
     where
-      finds : (e : Entry) → List·Memᴰ e (m .puts) → foundId (lookup img (e .name)) ≡ some (e .id)
-      finds e i =
-          let all = at-one (λ (x : Entry). All (SameId x) (m .puts)) e (m .puts) ids i in
-          let first = name-first (m .puts) e i in
-          let f = first-entry (m .puts) (SameId e) all (e .name) (first .0) (first .1) in
-          finds-first (e .name) ∙ first .1 ∙ ap {B = Option ℕ} some (sym (f .3) ∙ sym (f .1 (sym (f .2))))
-
       gives : modeIn img ≡ Twoway → (e : Entry) → List·Memᴰ e (m .puts) → nameGiven img (e .id) ≡ some (e .name)
       gives t e i =
           let all = at-one (λ (x : Entry). All (SameName x) (m .puts)) e (m .puts) (names (sym (made-mode img m) ∙ t)) i in
           let last = id-last (m .puts) e i in
           let f = last-entry (m .puts) (SameName e) all (last .0) (e .id) (last .1) in
           gives-last t (e .id) ∙ last .1 ∙ ap {B = Option (List ℕ)} some (sym (f .2) ∙ sym (f .1 (sym (f .3))))
+
+  -- so does every name that an id gives
+  named-twoway : (id : ℕ) (name : List ℕ) → nameGiven img id ≡ some name → modeIn img ≡ Twoway
+  named-twoway id name h = made-mode img m ∙ by-mode (m .mode) (sym (read .id-gives id) ∙ h)
+    where
+      by-mode : (mode : Mode) → namedIn mode (m .puts) id ≡ some name → mode ≡ Twoway
+      by-mode Twoway q = refl
+      by-mode Oneway q = let z : _≡_ {A = ℕ} 0 1 = cc in absurd (omega arith)
+
+  pub given-found : OneId (m .puts) → (id : ℕ) (name : List ℕ) → nameGiven img id ≡ some name → foundId (lookup img name) ≡ some id
+  given-found ids id name h =
+      let last = sym (gives-last (named-twoway id name h) id) ∙ h in
+      let f = last-entry (m .puts) (λ (e : Entry). List·Memᴰ e (m .puts)) (each-in (m .puts)) name id last in
+      ap (λ (n : List ℕ). foundId (lookup img n)) (sym (f .2)) ∙ own-found ids (f .0) (f .1) ∙ ap {B = Option ℕ} some (f .3)
 
   -- where the answer is yes, lookup and naming are inverse
   pub inverse : modeIn img ≡ Twoway → oneToOne img ≡ value none → Inverse img

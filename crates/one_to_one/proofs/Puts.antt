@@ -52,6 +52,17 @@ module _ (test : Entry → Bool) where
       go false q rest (inl p) z = false-not-true (sym q ∙ sym (ap test p) ∙ h)
       go false q rest (inr n) z = rest n z
 
+  -- what holds of all that it keeps
+  pub of-kept : (P : Entry → Type 0) (es : List Entry) → All P (filter test es) → All (λ (e : Entry). test e ≡ true → P e) es
+  unfolding filter
+  of-kept P [] all = tt
+  of-kept P (e ∷ es) all = by-test (of-kept P es) (test e) refl all
+    where
+      by-test : (All P (filter test es) → All (λ (x : Entry). test x ≡ true → P x) es) → (t : Bool) → test e ≡ t
+          → All P (cond t (e ∷ filter test es) (filter test es)) → All (λ (x : Entry). test x ≡ true → P x) (e ∷ es)
+      by-test rest true q kept = (λ h. kept .0, rest (kept .1))
+      by-test rest false q kept = (λ h. absurd (false-not-true (sym q ∙ h)), rest kept)
+
 -- ---- the first id and the last name of some entries
 
 first-some : (es : List Entry) → ¬ (es ≡ []) → (id : ℕ) × (firstId es ≡ some id)

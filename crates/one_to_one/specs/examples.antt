@@ -1,2 +1,3 @@
 -- Worked examples.
 pub mod Rows
+pub mod MissedExchange

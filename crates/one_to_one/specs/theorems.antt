@@ -1,2 +1,3 @@
--- What is proved of the rule.
+-- What is proved of the rule, and when `moved` finds an exchange of names.
 pub mod Theorem
+pub mod Exchanges

@@ -7,14 +7,15 @@ use borrow.Author.Needs.{needs}
 use Rattle.canonical.proofs.is_canonical.Statement.{statement}
 use Rattle.canonical.proofs.is_canonical.Tie as tie
 
-check-opened-requires : tie.Need-check-opened-requires
-check-opened-requires c κs = sym (c .before .before .before .«open» .ensures) ∙ ap openedOf (c .before .opened .given .1)
+returns : tie.Need-returns
+returns c =
+    let called = c .before .before in
+    let bytes = called .before in
+    let refused = sym (called .«open» .ensures) ∙ ap openedOf (c .enum-told .given .1) in
+    never-opened (bytes .before .args .image .now) _ refused (λ i. omega (arith, bytes .shared-slice-known .given i))
 
-returns-2 : tie.Need-returns-2
-returns-2 c =
-    let a = c .before .before .before .before .before .args in
-    let refused = sym (c .before .before .before .«open» .ensures) ∙ ap openedOf (c .before .opened2 .given .1) in
-    never-opened (a .image .now) _ refused (λ i. omega (arith, c .before .before .before .before .shared-slice-known .given i))
+check-opened-requires : tie.Need-check-opened-requires
+check-opened-requires c κs = sym (c .before .before .before .«open» .ensures) ∙ ap openedOf (c .before .n .given .1)
 
 pub is-canonical-spec : {M : Type 1} → statement M
 is-canonical-spec =
@@ -22,7 +23,7 @@ is-canonical-spec =
     (tie.spec
     (λ c κs. search needs)
     (λ c. search needs)
+    (λ c. search needs)
+    returns
     check-opened-requires
-    (λ c. search needs)
-    (λ c. search needs)
-    returns-2)
+    (λ c. search needs))

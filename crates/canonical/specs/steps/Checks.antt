@@ -83,7 +83,7 @@ countsMatch img counts = all (λ (t : ℕ). eqb (bucketNumber img t) (2 * getD c
 
 -- ---- each entry in its table
 
--- the bucket that the put at `at` took: the first of its probe sequence that is empty or has an offset from `at` on
+-- the bucket that the put at `at` took: the first of its probe sequence that is empty or has an offset at or after `at`
 unfoldable pub bucketTaken : List ℕ → ℕ → ℕ → ℕ
 bucketTaken img h at =
     let o = tableAt img (tableOf h) in
@@ -106,7 +106,7 @@ nameOk img at name = not (hasZero name) && inItsBucket img (hashOf name) at
 abbrev pub twoWay : List ℕ → Bool
 twoWay img = eqb (word img 8) 0
 
--- the back word w is not below the entry's offset `at`; a one-way image has no back words
+-- the link w is not below the entry's offset `at`; a one-way image has no links
 abbrev pub notBefore : Bool → ℕ → ℕ → Bool
 notBefore two at w = not (two && ltb w at)
 
@@ -117,18 +117,18 @@ unfoldable pub entriesOk : List ℕ → Bool → ℕ → List Placed → Bool
 entriesOk img two o [] = true
 entriesOk img two o (p ∷ ps) = entryOk img two o p && entriesOk img two o ps
 
--- how many entries have their own offset in their id's back word
+-- how many entries have their own offset in their id's link
 unfoldable pub selfLinksIn : List ℕ → ℕ → List Placed → ℕ
 selfLinksIn img o [] = 0
 selfLinksIn img o (p ∷ ps) = cond (eqb (word img (o + 4 * p .entry .id)) (p .at)) 1 0 + selfLinksIn img o ps
 
--- as many of the n back words are above 0
+-- as many of the n links are above 0
 abbrev pub linksCounted : List ℕ → ℕ → ℕ → List Placed → Bool
 linksCounted img o n ps = eqb (countAtLeast 1 (wordsAt img o n)) (selfLinksIn img o ps)
 
 -- ---- all of them
 
--- behind the head: n entries that end at `end`, and `back` back words
+-- behind the head: n entries that end at `end`, and `back` links
 unfoldable pub bodyOk : List ℕ → ℕ → ℕ → ℕ → Bool
 bodyOk img n end back =
     cond (rowsOk img end 0 256)

@@ -50,14 +50,14 @@ pub record TableMatches (n : ℕ) (table bs : List Bucket) : Type 0 where
   -- the bucket that each put took holds its entry
   pub stand : Each (λ (b : Bucket). getD table (putBucket n table b) empty ≡ b) bs
 
--- how many entries have their own offset in their id's back word
+-- how many entries have their own offset in their id's link
 unfoldable pub selfLinks : List ℕ → List Placed → ℕ
 selfLinks links [] = 0
 selfLinks links (p ∷ ps) = cond (eqb (getD links (p .entry .id) 0) (p .at)) 1 0 + selfLinks links ps
 
--- a back array whose words are those of these entries
+-- a back array whose links are those of these entries
 pub record BackArrayMatches (links : List ℕ) (ps : List Placed) : Type 0 where
-  -- the back word of each entry's id is its offset or a later one
+  -- the link of each entry's id is its offset or a later one
   pub ahead : Each (λ (p : Placed). p .at ≤ getD links (p .entry .id) 0) ps
-  -- as many words are above 0 as entries have their own offset in their id's word
+  -- as many links are above 0 as entries have their own offset in their id's link
   pub used : countAtLeast 1 links ≡ selfLinks links ps

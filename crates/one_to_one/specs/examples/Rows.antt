@@ -21,13 +21,13 @@ RowAnswered r = oneToOne (image (r .mode) (r .puts)) ≡ value (r .answer)
 abbrev row : Mode → List Entry → Option Failure → OneToOneRow
 row mode puts answer = record { mode = mode; puts = puts; answer = answer }
 
-abbrev fails : ℕ → ℕ → Option Failure
+abbrev pub fails : ℕ → ℕ → Option Failure
 fails kind offset = some (record { kind = kind; offset = offset })
 
-abbrev A : ℕ → Entry
+abbrev pub A : ℕ → Entry
 A id = record { name = 65 ∷ []; id = id }
 
-abbrev B : ℕ → Entry
+abbrev pub B : ℕ → Entry
 B id = record { name = 66 ∷ []; id = id }
 
 abbrev crane : ℕ → Entry

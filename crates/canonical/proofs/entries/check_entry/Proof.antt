@@ -11,16 +11,13 @@ returns c =
     let zero = c .before .has-zero in
     name-zero (a .image .now) (a .at) (a .n) (name .result .now) (zero .result) (name .ensures .is) (zero .ensures) (c .if1 .taken)
 
-in-bucket-cached-requires : tie.Need-in-bucket-cached-requires
-in-bucket-cached-requires c κs = c .before .before .before .before .pre .cached
-
 returns-2 : tie.Need-returns-2
 returns-2 c =
     let s = c .before .before .before .before .before in
     let a = s .args in
     let name = c .before .before .before .name-at in
     let zero = c .before .before .has-zero in
-    let found = c .in-bucket-cached in
+    let found = c .in-its-bucket in
     name-bucket (a .image .now) (a .at) (a .n) (name .result .now) (zero .result) (name .ensures .is) (zero .ensures) (a .h) (found .result) (c .before .if1 .left)
     (s .pre .hash) (found .ensures)
 
@@ -32,5 +29,5 @@ check-entry-spec =
     (λ c κs. search needs)
     returns
     (λ c. search needs)
-    in-bucket-cached-requires
+    (λ c κs. search needs)
     returns-2)

@@ -18,13 +18,15 @@ loop-holds c = record { few = omega arith; same = refl }
 
 returns : tie.Need-returns Inv-loop μ-loop
 returns c =
-    let l = c .before .before .before .before in
-    count-differs (l .before .loop .inv) (l .loop-test .taken) (λ e. c .if1 .taken (c .before .before .before .row-number .ensures .is ∙ e ∙ sym (c .before .twice .ensures)))
+    let row = c .before .before .before in
+    let l = row .before in
+    count-differs (l .before .loop .inv) (l .loop-test .taken) (λ e. c .if1 .taken (row .row-number .ensures .is ∙ e ∙ sym (c .before .buckets-for .ensures)))
 
 loop-again : tie.Need-loop-again Inv-loop μ-loop
 loop-again c =
-    let l = c .before .before .before .before in
-    count-matches (l .before .loop .inv) (l .loop-test .taken) (sym (c .before .before .before .row-number .ensures .is) ∙ c .if1 .left ∙ c .before .twice .ensures)
+    let row = c .before .before .before in
+    let l = row .before in
+    count-matches (l .before .loop .inv) (l .loop-test .taken) (sym (row .row-number .ensures .is) ∙ c .if1 .left ∙ c .before .buckets-for .ensures)
 
 returns-2 : tie.Need-returns-2 Inv-loop μ-loop
 returns-2 c = counts-end (c .before .loop .inv) (omega arith)
