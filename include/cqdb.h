@@ -84,8 +84,8 @@
 
    What is proved is the archive. The declarations, structs and inline functions of this file are tested. The inline functions
    only copy numbers, pass arguments on (rounds: four words for each place; build: one number for both lists; begin and
-   put_indexed: the writer's numbers in place; preflight: the fields of a report) or take a C string's length; and
-   cqdb_refusal_text gives a number's text. */
+   put_indexed: the writer's numbers in place; preflight: the fields of a report, three words for each window) or take a C string's
+   length; and cqdb_refusal_text gives a number's text. */
 #ifndef CQDB_H
 #define CQDB_H
 
@@ -800,6 +800,26 @@ static inline cqdb_preflight_answer cqdb_preflight(const cqdb_report *report) {
 static inline cqdb_preflight_answer cqdb_preflight_first(const cqdb_report *report) {
     return cqdb_preflight_first_parts(report->new_image, report->new_len, report->sheet, report->sheet_len, report->round,
                                       report->round_len);
+}
+
+/* refusal is 22 or 23, 0 when the call was accepted. */
+typedef struct {
+    uint32_t question; /* 0: yes; 11: the id at `place` has no window that holds both dates; 0 where refused */
+    uint32_t refusal;
+    uint64_t place; /* question 11: the first such place in the round; otherwise 0 */
+} cqdb_preflight_dates_answer;
+
+/* The same windows as words of 32 bits, three to a window, as the struct lies in memory. */
+cqdb_preflight_dates_answer cqdb_preflight_dates_words(const uint32_t *windows, size_t words, const uint32_t *round, size_t round_len,
+                                                       cqdb_date last, cqdb_date date);
+
+/* Has every id of the round one window that holds both the date of the last report and that of this one, so that no prism was taken
+   away and set again between them? Of a first report both dates are the same. Refusals: 22 when a date does not exist or is out of
+   bounds, `last`, `date` or one of a window; 23 when none is, and a window does not start before its end. Changes nothing. Its time
+   grows with the round times the windows. */
+static inline cqdb_preflight_dates_answer cqdb_preflight_dates(const cqdb_window *windows, size_t windows_len, const uint32_t *round,
+                                                               size_t round_len, cqdb_date last, cqdb_date date) {
+    return cqdb_preflight_dates_words((const uint32_t *)windows, 3 * windows_len, round, round_len, last, date);
 }
 
 /* A whole round in one call, in both directions. The archive exports cqdb_round_words and cqdb_name_round_words, which take the

@@ -4,3 +4,4 @@ pub mod Places
 pub mod Walks
 pub mod Answers
 pub mod Tallies
+pub mod Windows

@@ -6,4 +6,5 @@ pub mod OnSheet
 pub mod Verdicts
 pub mod Counts
 pub mod Preflight
+pub mod Dates
 pub mod steps

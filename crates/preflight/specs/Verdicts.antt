@@ -1,6 +1,6 @@
 -- The questions in their order; the first that fails is the verdict. Those of a first report come first: 1, the new
 -- image is canonical and two-way; 2, the sheet reads; 3, each id of the round is on it; 4, the round has an id; 5, each
--- has a name; 6, no two have one name. Then those of a comparison: 7, the old image is canonical and two-way; 8, the two
+-- has a name; 6, no two have one name. Then those of a comparison: 7, the old image is canonical and two-way; 8, both
 -- name some id alike; 9, no id of the round is renamed; 10, no id of the round has the name that another id has lost.
 use Prim.Native.Nat.{ℕ}
 use mathlib.Core.Bool.{Bool, true, false, cond}

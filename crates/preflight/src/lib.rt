@@ -15,6 +15,7 @@ use names::some_kept;
 use on_sheet::of_sheet;
 
 mod counts; // counts.rt: compared, unsighted: how much a yes is about
+pub mod dates; // dates.rt: preflight_dates: windows that hold the dates of two reports
 mod names; // names.rt: the questions about names
 mod on_sheet; // on_sheet.rt: the round beside the sheet: of_sheet
 

@@ -20,7 +20,14 @@ pub struct PreflightAnswer {
 }
 
 // A question with what shows it, and the counts of an answer.
-fn made(a: Answer, question: u32, refusal: u32, id: u32, place: usize, other: usize) -> PreflightAnswer
+fn made(
+    a: Answer,
+    question: u32,
+    refusal: u32,
+    id: u32,
+    place: usize,
+    other: usize,
+) -> PreflightAnswer
     ensures { λ r. ⌜ r ≡ made a question refusal id place other ⌝ }
 {
     PreflightAnswer {
@@ -74,7 +81,11 @@ pub extern "C" fn cqdb_preflight_parts(
 
 // May a first report leave?
 #[no_mangle]
-pub extern "C" fn cqdb_preflight_first_parts(new: &[u8], sheet: &[u8], round: &[u32]) -> PreflightAnswer
+pub extern "C" fn cqdb_preflight_first_parts(
+    new: &[u8],
+    sheet: &[u8],
+    round: &[u32],
+) -> PreflightAnswer
     ensures { λ r. ⌜
         r ≡ preflightAnswer (preflightFirst (now (new .entry)) (now (sheet .entry)) (now (round .entry)))
         ⌝ }
