@@ -5,3 +5,10 @@ pub mod Walks
 pub mod Answers
 pub mod Tallies
 pub mod Windows
+pub mod Members
+pub mod Questions
+pub mod Yes
+pub mod Alone
+pub mod Changed
+pub mod Images
+pub mod Theorem

@@ -8,3 +8,4 @@ pub mod Counts
 pub mod Preflight
 pub mod Dates
 pub mod steps
+pub mod theorems
