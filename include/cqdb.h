@@ -84,7 +84,8 @@
 
    What is proved is the archive. The declarations, structs and inline functions of this file are tested. The inline functions
    only copy numbers, pass arguments on (rounds: four words for each place; build: one number for both lists; begin and
-   put_indexed: the writer's numbers in place) or take a C string's length; and cqdb_refusal_text gives a number's text. */
+   put_indexed: the writer's numbers in place; preflight: the fields of a report, three words for each window) or take a C string's
+   length; and cqdb_refusal_text gives a number's text. */
 #ifndef CQDB_H
 #define CQDB_H
 
@@ -745,6 +746,86 @@ typedef struct {
 /* Whether the old name of an id is now another id's name: found is 1 where the id has a name in the old image and cqdb_to_id of that
    name, in the new image, finds another id, which the answer gives. */
 cqdb_moved_answer cqdb_moved(const uint8_t *old_image, size_t old_len, const uint8_t *new_image, size_t new_len, uint32_t id);
+
+/* May this report leave? The station names the sighted ids of a round by an image, and engineers subtract positions of two reports
+   under one name. A report may leave where no movement is shown that never happened. The questions, in this order; the first that
+   fails is the answer:
+    1  the new image is canonical and two-way
+    2  the sheet reads (19, 20)
+    3  each id of the round occurs exactly once in the whole sheet, as a reference or a wall prism
+    4  the round has an id
+    5  each id of the round has a name in the new image that is not empty
+    6  no two different ids of the round have one name in the new image
+    7  the old image is canonical and two-way
+    8  the old and the new image name at least one id alike, sighted or not
+    9  each id of the round that the old image names has the same name in the new one, unless it is accepted
+   10  no id, of any number, whose old name a sighted id has now, has lost it. What is accepted does not matter
+   Both calls take any bytes, are never refused and change nothing. Their time grows with the round times the sheet, and with the
+   square of the round. */
+
+/* What a report rests on. A list without elements may have a null pointer and length 0. */
+typedef struct {
+    const uint8_t *old_image; /* the image by which the last report was named */
+    size_t old_len;
+    const uint8_t *new_image; /* the image by which this report is named */
+    size_t new_len;
+    const uint8_t *sheet; /* the round sheet */
+    size_t sheet_len;
+    const uint32_t *round; /* the sighted ids, in order; an id may stand twice */
+    size_t round_len;
+    const uint32_t *accepted; /* ids whose rename is intended */
+    size_t accepted_len;
+} cqdb_report;
+
+/* Numbers that do not apply are 0. Places in the round count from 0. */
+typedef struct {
+    uint32_t question;  /* 0: the report may leave; 1 to 10: the first question that fails */
+    uint32_t refusal;   /* question 2: why the sheet does not read, 19 or 20 */
+    uint32_t id;        /* question 10: the id that lost its name */
+    uint64_t place;     /* questions 3, 5, 6, 9, 10: the place in the round of the id that shows it */
+    uint64_t other;     /* question 6: the first place of another id with that name */
+    uint64_t compared;  /* yes: how many places of the round have an id that the old image names; 0 for a first report */
+    uint64_t added;     /* yes: how many places have an id that the old image does not name; 0 for a first report */
+    uint64_t unsighted; /* yes: how many references and wall prisms of the sheet are not in the round */
+} cqdb_preflight_answer;
+
+cqdb_preflight_answer cqdb_preflight_parts(const uint8_t *old_image, size_t old_len, const uint8_t *new_image, size_t new_len,
+                                           const uint8_t *sheet, size_t sheet_len, const uint32_t *round, size_t round_len,
+                                           const uint32_t *accepted, size_t accepted_len);
+cqdb_preflight_answer cqdb_preflight_first_parts(const uint8_t *new_image, size_t new_len, const uint8_t *sheet, size_t sheet_len,
+                                                 const uint32_t *round, size_t round_len);
+
+/* May the report leave, after one that the old image named? Questions 1 to 10. */
+static inline cqdb_preflight_answer cqdb_preflight(const cqdb_report *report) {
+    return cqdb_preflight_parts(report->old_image, report->old_len, report->new_image, report->new_len, report->sheet,
+                                report->sheet_len, report->round, report->round_len, report->accepted, report->accepted_len);
+}
+
+/* May a first report leave, with no earlier one to compare? Questions 1 to 6. old_image and accepted are not read. */
+static inline cqdb_preflight_answer cqdb_preflight_first(const cqdb_report *report) {
+    return cqdb_preflight_first_parts(report->new_image, report->new_len, report->sheet, report->sheet_len, report->round,
+                                      report->round_len);
+}
+
+/* refusal is 22 or 23, 0 when the call was accepted. */
+typedef struct {
+    uint32_t question; /* 0: yes; 11: the id at `place` has no window that holds both dates; 0 where refused */
+    uint32_t refusal;
+    uint64_t place; /* question 11: the first such place in the round; otherwise 0 */
+} cqdb_preflight_dates_answer;
+
+/* The same windows as words of 32 bits, three to a window, as the struct lies in memory. */
+cqdb_preflight_dates_answer cqdb_preflight_dates_words(const uint32_t *windows, size_t words, const uint32_t *round, size_t round_len,
+                                                       cqdb_date last, cqdb_date date);
+
+/* Has every id of the round one window that holds both the date of the last report and that of this one, so that no prism was taken
+   away and set again between them? Of a first report both dates are the same. Refusals: 22 when a date does not exist or is out of
+   bounds, `last`, `date` or one of a window; 23 when none is, and a window does not start before its end. Changes nothing. Its time
+   grows with the round times the windows. */
+static inline cqdb_preflight_dates_answer cqdb_preflight_dates(const cqdb_window *windows, size_t windows_len, const uint32_t *round,
+                                                               size_t round_len, cqdb_date last, cqdb_date date) {
+    return cqdb_preflight_dates_words((const uint32_t *)windows, 3 * windows_len, round, round_len, last, date);
+}
 
 /* A whole round in one call, in both directions. The archive exports cqdb_round_words and cqdb_name_round_words, which take the
    answers as words of 32 bits, four to an answer, as the structs above lie in memory on x86-64: the low half of a 64-bit start

@@ -105,7 +105,7 @@ unfolding upper
 upper-sym old new = omega arith
 
 -- at the upper hint and above it an image names nothing
-above : (image : List ℕ) (id : ℕ) → upperHint image 0 ≤ id → naming image id ≡ unnamed
+pub above : (image : List ℕ) (id : ℕ) → upperHint image 0 ≤ id → naming image id ≡ unnamed
 unfolding upperHint naming
 above image id h = go (noBack image) h
   where

@@ -29,7 +29,7 @@ fn month_length(year: u16, month: u8) -> u8
 }
 
 // Does the date exist, in the years 1900 to 2199?
-pub(super) fn is_date(d: Date) -> bool
+pub fn is_date(d: Date) -> bool
     ensures { λ r. ⌜ r ≡ isDate d ⌝ }
 {
     if d.year < 1900 {
@@ -45,7 +45,7 @@ pub(super) fn is_date(d: Date) -> bool
 }
 
 // Can it be an end date: does it exist so, or is it 1 January 2200?
-pub(super) fn is_end(d: Date) -> bool
+pub fn is_end(d: Date) -> bool
     ensures { λ r. ⌜ r ≡ isEnd d ⌝ }
 {
     if is_date(d) {
@@ -61,7 +61,7 @@ pub(super) fn is_end(d: Date) -> bool
 }
 
 // Does the date a come before b: by year, then month, then day?
-pub(super) fn earlier(a: Date, b: Date) -> bool
+pub fn earlier(a: Date, b: Date) -> bool
     ensures { λ r. ⌜ r ≡ earlier a b ⌝ }
 {
     if a.year != b.year {

@@ -8,7 +8,7 @@ use calendar::is_date;
 use reader::Named;
 use windows::window_state;
 
-mod calendar; // calendar.rt: months, dates, and their order
+pub mod calendar; // calendar.rt: months, dates, and their order
 pub mod windows; // windows.rt: window_state, what the windows say of an id on a date
 
 // Year, month and day, whether such a day exists or not.

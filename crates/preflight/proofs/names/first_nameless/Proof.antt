@@ -1,0 +1,63 @@
+-- `preflight::names::first_nameless` meets its contract. The loop's invariant: what is left of the round decides. Assumes nothing.
+use Prim.Native.Nat.{_-_}
+use native.Mathlib.Omega.{arith}
+use mathlib.Core.Path.{_≡_, refl, sym, _∙_}
+use lib.ListN.{length, drop}
+use borrow.Author.Needs.{needs}
+use Rattle.reader.specs.Naming.{nameGiven}
+use Rattle.preflight.specs.Ids.{firstPlace}
+use Rattle.preflight.specs.Names.{nameless}
+use Rattle.preflight.proofs.Places.{place-end, place-here, place-on}
+use Rattle.preflight.proofs.names.first_nameless.Statement.{statement}
+use Rattle.preflight.proofs.names.first_nameless.Tie as tie
+
+abbrev Inv-loop : tie.InvT-loop
+Inv-loop new round i₀ i =
+    firstPlace (nameless (nameGiven new)) i (drop i round) ≡ firstPlace (nameless (nameGiven new)) 0 round
+
+abbrev μ-loop : tie.MeasureT-loop
+μ-loop new round i₀ i = length round - i
+
+abbrev turn : tie.After-nameless Inv-loop μ-loop → tie.At-loop Inv-loop μ-loop
+turn c = c .before .before .before
+
+abbrev start : tie.At-loop Inv-loop μ-loop → tie.Start Inv-loop μ-loop
+start c = c .before .before .before
+
+returns : tie.Need-returns Inv-loop μ-loop
+returns c =
+    let t = turn (c .before) in
+    let a = start t .args in
+    sym (place-here (nameless (nameGiven (a .new .now))) (a .round .now) (t .loop .i) (c .before .before .before .loop-test .taken)
+    (sym (c .before .nameless .ensures) ∙ c .if1 .taken))
+    ∙ t .loop .inv
+
+loop-again : tie.Need-loop-again Inv-loop μ-loop
+loop-again c =
+    let t = turn (c .before) in
+    let a = start t .args in
+    place-on (nameless (nameGiven (a .new .now))) (a .round .now) (t .loop .i) (c .before .before .before .loop-test .taken)
+    (sym (c .before .nameless .ensures) ∙ c .if1 .left)
+    ∙ t .loop .inv
+
+returns-2 : tie.Need-returns-2 Inv-loop μ-loop
+returns-2 c =
+    let t = c .before in
+    let a = start t .args in
+    sym (place-end (nameless (nameGiven (a .new .now))) (a .round .now) (t .loop .i) (c .loop-test .left)) ∙ t .loop .inv
+
+pub first-nameless-spec : {M : Type 1} → statement M
+first-nameless-spec =
+    tie.close
+    (tie.spec
+    Inv-loop
+    μ-loop
+    (λ c. refl)
+    (λ c. search needs)
+    (λ c. search needs)
+    (λ c κs. search needs)
+    returns
+    (λ c. search needs)
+    (λ c. omega arith)
+    loop-again
+    returns-2)
