@@ -20,8 +20,8 @@ fn ids_of_names() {
     let ran = folder.cqdb(&["id", "walls", "Crane", "crane", ""]).gives(1).prints(" Crane\n1 crane\n \n");
     ran.tells("cqdb: id: walls has no name \"Crane\"\ncqdb: id: walls has no name \"\"\n");
     folder.cqdb(&["id", "--tab", "walls", "crane"]).prints("1\tcrane\n");
-    folder.with("7 two\nlines\0", &["make", "-0", "lines"]).gives(0);
-    let told = "cqdb: id: the name of id 7 has a line feed: say --zero, --tsv or --json\n";
+    folder.with("7 two\nlines\0", &["make", "-0", "--alike", "lines"]).gives(0);
+    let told = "cqdb: id: the name of id 7 has a line feed: say --zero, --csv, --tsv or --json\n";
     folder.cqdb(&["id", "lines", "two\nlines"]).gives(2).prints("").tells(told);
     folder.cqdb(&["id", "-0", "lines", "two\nlines"]).gives(0).prints("7 two\nlines\0");
     let long = "x".repeat(99);
@@ -79,7 +79,7 @@ fn lists_of_puts() {
     }
     // The list of an image makes the image again.
     let list = "5 crane\n9 crane\n5 mole\n0 \n";
-    folder.with(list, &["make", "--repeats", "--renamed", "image"]).gives(0);
+    folder.with(list, &["make", "--repeats", "--renamed", "--blank", "image"]).gives(0);
     folder.cqdb(&["list", "--puts", "image"]).prints(list);
     let mut bytes = folder.read("image");
     bytes.push(0);

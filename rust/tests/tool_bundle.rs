@@ -23,7 +23,8 @@ fn append_list_extract() {
     assert_eq!(folder.read("walls"), ["north", "empty", "quay"].map(|name| folder.read(name)).concat());
     let ran = folder.cqdb(&["bundle", "list", "walls"]).gives(0);
     ran.prints(format!("0 2 {}\n1 0 {}\n2 1 {}\n", sizes[0], sizes[1], sizes[2])).tells("");
-    folder.cqdb(&["bundle", "extract", "walls", "2", "out"]).gives(0).prints("");
+    let ran = folder.cqdb(&["bundle", "extract", "walls", "2", "out"]).gives(0);
+    ran.prints(format!("out: 1 entry, {} bytes\n", sizes[2])).tells("");
     assert_eq!(folder.read("out"), folder.read("quay"));
     folder.cqdb(&["id", "out", "crane"]).gives(0).prints("7 crane\n");
     assert_eq!(folder.files(), ["empty", "north", "out", "quay", "walls"]);
@@ -34,7 +35,7 @@ fn positions_that_are_not_there() {
     let folder = folder();
     folder.cqdb(&["bundle", "append", "walls", "north"]).gives(0);
     let ran = folder.cqdb(&["bundle", "extract", "walls", "1", "out"]).gives(1).prints("");
-    assert!(ran.err.ends_with("(refusal 11)\n"), "{}", ran.err);
+    ran.tells("cqdb: bundle: walls has 1 image, and none at position 1 (refusal 11)\n");
     folder.cqdb(&["bundle", "extract", "walls", "x", "out"]).gives(2);
     folder.write("none", "");
     folder.cqdb(&["bundle", "list", "none"]).gives(0).prints("").tells("");
@@ -118,7 +119,7 @@ fn a_bundle_is_not_taken_for_an_image() {
     folder.cqdb(&["bundle", "append", "walls", "north", "quay"]).gives(0);
     let whole = folder.read("walls");
     folder.write("list", "3 mole\n");
-    let told = "walls is a bundle of 2 images: walls:0 to walls:1 name them; id, name and list take --all\n";
+    let told = "walls is a bundle of 2 images: walls:0 to walls:1 name them; id, name, list and diff take --all\n";
     for command in [
         &["id", "walls", "A"][..],
         &["name", "walls", "0"],
@@ -184,4 +185,29 @@ fn one_image_of_a_bundle_and_all() {
     // A file whose name has a colon is that file.
     fs::copy(folder.0.join("quay"), folder.0.join("walls:0")).unwrap();
     folder.cqdb(&["list", "walls:0"]).prints("7 crane\n");
+}
+
+/// An image is appended, not a bundle; one image of a bundle is named by its position.
+#[test]
+fn a_bundle_is_not_appended() {
+    let folder = folder();
+    folder.cqdb(&["bundle", "append", "walls", "north", "quay"]).gives(0);
+    let whole = folder.read("walls");
+    let told = "walls is a bundle of 2 images, and an image is appended: walls:0 to walls:1 name them\n";
+    for bundle in ["walls", "other", "-"] {
+        let ran = folder.cqdb(&["bundle", "append", bundle, "walls"]).gives(2).prints("");
+        ran.tells(&format!("cqdb: bundle: {told}"));
+    }
+    folder.write("cut", &whole[..whole.len() - 1]);
+    let ran = folder.cqdb(&["bundle", "append", "walls", "cut"]).gives(2).prints("");
+    ran.tells("cqdb: bundle: cut is a broken bundle, and an image is appended: cut:0 names its first (refusal 10)\n");
+    assert!(folder.read("walls") == whole && !folder.0.join("other").exists());
+    let ran = folder.cqdb(&["bundle", "append", "walls", "walls:1", "cut:0"]).gives(0);
+    ran.prints(format!("walls: 4 images, {} bytes\n", 2 * whole.len())).tells("");
+    assert_eq!(folder.read("walls"), [&whole[..], &folder.read("quay"), &folder.read("north")].concat());
+    let ran = folder.cqdb(&["bundle", "append", "walls", "walls:4"]).gives(2);
+    ran.tells("cqdb: bundle: walls:4: the bundle has no image at this position (refusal 11)\n");
+    folder.write("text", "0 A\n");
+    let told = "text cannot be appended: it is no image, or its size word is not its length (refusal 10)\n";
+    folder.cqdb(&["bundle", "append", "walls", "text"]).gives(2).tells(&format!("cqdb: bundle: {told}"));
 }

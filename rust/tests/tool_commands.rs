@@ -22,14 +22,25 @@ fn names_on_a_date() {
     on("2024-09-30", &["1", "0", "7"]).gives(1).prints("1 crane\n0 \n7 \n");
     folder.with("4\n1\n", &["on", "-q", "2024-09-30", "walls", "windows"]).gives(0).prints("mole\ncrane\n");
     for date in ["2024-02-30", "1899-12-31", "2200-01-01"] {
-        let told = "cqdb: on: the date asked about: a date does not exist, or is out of bounds (refusal 22)\n";
-        on(date, &["1"]).gives(2).prints("").tells(told);
+        let told = format!("the date asked about, {date}, is no day of the years 1900 to 2199 (refusal 22)\n");
+        on(date, &["1"]).gives(2).prints("").tells(&format!("cqdb: on: {told}"));
     }
     for date in ["today", "2024-5-31", "24-05-31", "2024-05-31x", ""] {
         on(date, &["1"]).gives(2).tells(&format!("cqdb: on: {date:?} is no date as 2024-03-31\n"));
     }
     for (line, told) in [
-        ("1 2023-02-29 2024-01-01", "line 2: a date does not exist, or is out of bounds (refusal 22)"),
+        (
+            "1 2023-02-29 2024-01-01",
+            "line 2: the first date, 2023-02-29, is no day of the years 1900 to 2199 (refusal 22)",
+        ),
+        (
+            "1 2200-01-01 2200-01-01",
+            "line 2: the first date, 2200-01-01, is no day of the years 1900 to 2199 (refusal 22)",
+        ),
+        (
+            "1 2023-01-01 2024-13-01",
+            "line 2: the end date, 2024-13-01, is no day of the years 1900 to 2199 (refusal 22)",
+        ),
         ("1 2024-06-01 2024-06-01", "line 2: a window does not start before its end (refusal 23)"),
         (
             "1 2024-06-01",

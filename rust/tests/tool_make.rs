@@ -9,12 +9,12 @@ use tool::Folder;
 #[test]
 fn a_list_from_a_file_or_standard_input() {
     let folder = Folder::new();
-    let list = "0 north wall\n3 crane\n0 quay corner\n7 ";
+    let list = "0 north wall\n3 crane\n0 quay corner\n7 \n";
     folder.write("list", list);
-    let ran = folder.cqdb(&["make", "--renamed", "image", "list"]).gives(0);
+    let ran = folder.cqdb(&["make", "--renamed", "--blank", "image", "list"]).gives(0);
     ran.prints("image: 4 entries, 2230 bytes\n").tells("");
-    folder.with(list, &["make", "--renamed", "other"]).gives(0);
-    folder.with(list, &["make", "--renamed", "third", "-"]).gives(0);
+    folder.with(list, &["make", "--renamed", "--blank", "other"]).gives(0);
+    folder.with(list, &["make", "--renamed", "--blank", "third", "-"]).gives(0);
     let mut writer = MemoryWriter::new();
     for (name, id) in [("north wall", 0), ("crane", 3), ("quay corner", 0), ("", 7)] {
         writer.put(name, id).unwrap();
@@ -63,7 +63,7 @@ fn ids_have_1_to_10_digits() {
 #[test]
 fn a_tab_between() {
     let folder = Folder::new();
-    folder.with("1\ta b\n2\t\tc\n", &["make", "--tab", "image"]).gives(0);
+    folder.with("1\ta b\n2\t\tc\n", &["make", "--tab", "--alike", "image"]).gives(0);
     folder.cqdb(&["list", "image"]).prints("1 a b\n2 \tc\n");
     folder.cqdb(&["list", "--tab", "image"]).prints("1\ta b\n2\t\tc\n");
     let ran = folder.with("1 a b\n", &["make", "--tab", "image"]).gives(2);
@@ -124,9 +124,9 @@ fn lists_of_windows_are_noticed_and_named() {
     assert!(ran.err.contains("line 2: a carriage return before the line feed (CR LF)"), "{}", ran.err);
     let ran = folder.with("\u{feff}1 one\n", &["make", "image"]).gives(2);
     assert!(ran.err.contains("line 1: a byte order mark (EF BB BF) before the id"), "{}", ran.err);
-    let ran = folder.with(b"\xff\xfe1\0 \0", &["make", "--windows", "image"]).gives(2);
+    let ran = folder.with(b"\xff\xfe1\0 \0a\0\n\0", &["make", "--windows", "image"]).gives(2);
     assert!(ran.err.contains("line 1: the byte order mark of UTF-16"), "{}", ran.err);
-    let ran = folder.with("\u{feff}1 one\r\n2 two\r\n3 three", &["make", "--windows", "image"]).gives(0);
+    let ran = folder.with("\u{feff}1 one\r\n2 two\r\n3 three\r\n", &["make", "--windows", "image"]).gives(0);
     ran.prints("image: 3 entries, 2174 bytes\n").tells("");
     folder.cqdb(&["list", "image"]).prints("1 one\n2 two\n3 three\n");
 }
@@ -138,20 +138,20 @@ fn names_of_any_bytes_survive() {
     let names: Vec<Vec<u8>> = (1..=255).map(|byte| vec![byte]).chain([all, b"ends \r".to_vec(), Vec::new()]).collect();
     let lines: Vec<Vec<u8>> =
         names.iter().enumerate().map(|(id, name)| [format!("{id} ").as_bytes(), name, b"\0"].concat()).collect();
-    folder.with(lines.concat(), &["make", "-0", "image"]).gives(0);
+    folder.with(lines.concat(), &["make", "-0", "--alike", "--blank", "image"]).gives(0);
     folder.cqdb(&["list", "-0", "image"]).gives(0).prints(lines.concat());
     let image = folder.read("image");
     let db = CQDB::new(&image).unwrap();
     assert!(names.iter().enumerate().all(|(id, name)| db.to_str(id as u32).unwrap() == *name));
     // Without -0, a name with a line feed is told and not printed as two lines.
     let ran = folder.cqdb(&["list", "image"]).gives(2);
-    ran.tells("cqdb: list: the name of id 9 has a line feed: say --zero, --tsv or --json\n");
+    ran.tells("cqdb: list: the name of id 9 has a line feed: say --zero, --csv, --tsv or --json\n");
     // Of the other names, those that end with a carriage return need -0 as well.
     let plain: Vec<Vec<u8>> = (names.iter().enumerate())
         .filter(|(_, name)| !name.contains(&b'\n') && name.last() != Some(&b'\r'))
         .map(|(id, name)| [format!("{id} ").as_bytes(), name, b"\n"].concat())
         .collect();
-    folder.with(plain.concat(), &["make", "image"]).gives(0);
+    folder.with(plain.concat(), &["make", "--alike", "--blank", "image"]).gives(0);
     folder.cqdb(&["list", "image"]).gives(0).prints(plain.concat());
 }
 
@@ -225,12 +225,17 @@ fn an_id_that_comes_again() {
 fn records_of_cdb() {
     let folder = Folder::new();
     let records = "+5,1:crane->7\n+10,2:two\nlines:->12\n+0,1:->0\n\n";
-    folder.with(records, &["make", "--cdb", "image"]).gives(0).prints("image: 3 entries, 2214 bytes\n").tells("");
+    let ran = folder.with(records, &["make", "--cdb", "--alike", "--blank", "image"]).gives(0);
+    ran.prints("image: 3 entries, 2214 bytes\n").tells("");
     folder.cqdb(&["list", "--cdb", "--puts", "image"]).gives(0).prints(records).tells("");
     folder.cqdb(&["list", "--cdb", "image"]).prints("+0,1:->0\n+5,1:crane->7\n+10,2:two\nlines:->12\n\n");
     folder.cqdb(&["id", "image", "crane"]).prints("7 crane\n");
-    // The empty line behind the last record may be missing.
-    folder.with("+5,1:crane->7\n", &["make", "--cdb", "image"]).gives(0);
+    // Records that no empty line follows may be cut.
+    let told = "standard input ends behind record 1 without an empty line, so it may be cut: --incomplete takes it\n";
+    folder.with("+5,1:crane->7\n", &["make", "--cdb", "image"]).gives(2).tells(&format!("cqdb: make: {told}"));
+    folder.with("+5,1:crane->7\n", &["make", "--cdb", "--incomplete", "image"]).gives(0);
+    let ran = folder.with("+5,1:crane->7\n\n+1,1:b->2\n\n", &["make", "--cdb", "image"]).gives(2);
+    ran.tells("cqdb: make: standard input: something stands behind the empty line\n");
     for bad in [
         "+5,1:crane->7",
         "+5,1:crane-:7\n",
@@ -243,9 +248,9 @@ fn records_of_cdb() {
         let ran = folder.with(format!("+1,1:a->1\n{bad}"), &["make", "--cdb", "image"]).gives(2);
         ran.tells("cqdb: make: standard input, record 2: not +klen,dlen:key->data\n");
     }
-    let ran = folder.with("+1,1:a->1\n+1,1:b->x\n", &["make", "--cdb", "image"]).gives(2);
+    let ran = folder.with("+1,1:a->1\n+1,1:b->x\n\n", &["make", "--cdb", "image"]).gives(2);
     ran.tells("cqdb: make: standard input, record 2: the data \"x\" is no decimal id up to 4294967295\n");
-    let ran = folder.with("+1,1:a->1\n+1,1:b->1\n", &["make", "--cdb", "image"]).gives(2);
+    let ran = folder.with("+1,1:a->1\n+1,1:b->1\n\n", &["make", "--cdb", "image"]).gives(2);
     ran.tells("cqdb: make: standard input, record 2: id 1 was put by record 1: --renamed takes the later name\n");
     folder
         .with(records, &["make", "--cdb", "--tab", "image"])

@@ -56,7 +56,8 @@ fn without_memory() {
     }
     assert!(folder.read("image") == old && folder.files() == ["image"]);
     // A name that is nearly as large as the memory is printed without a copy.
-    let large = folder.shell("(printf '7 '; head -c 60000000 /dev/zero | tr '\\0' x) | \"$CQDB\" make large").gives(0);
+    let large =
+        folder.shell("(printf '7 '; head -c 60000000 /dev/zero | tr '\\0' x; echo) | \"$CQDB\" make large").gives(0);
     large.prints("large: 1 entry, 60002129 bytes\n");
     for (command, bytes) in [
         ("name large 7", 60_000_003),

@@ -195,7 +195,7 @@ fn what_cannot_be_done() {
         ("image --sheet sheet --last round", "round: invalid file format (refusal 1)"),
         (
             "image --sheet sheet --validity windows --date 2024-02-30",
-            "the date asked about: a date does not exist, or is out of bounds (refusal 22)",
+            "the date asked about, 2024-02-30, is no day of the years 1900 to 2199 (refusal 22)",
         ),
         ("image --sheet", "--sheet needs its SHEET"),
     ] {

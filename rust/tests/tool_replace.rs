@@ -257,3 +257,22 @@ fn as_process_1() {
     folder.cqdb(&["list", "image"]).prints("2 new\n");
     assert_eq!(folder.files(), ["image", "image.1.new"]);
 }
+
+/// The line that says what is written comes behind the move: a file that cannot be moved to its place is not said to be
+/// there. Linux does not move a file to where another is mounted.
+#[test]
+fn a_move_that_fails() {
+    let folder = Folder::new();
+    folder.image("image", "1 old\n");
+    let old = folder.read("image");
+    let line = "unshare --user --map-root-user --mount bash -c 'mount --bind image image || exit 77; \
+                echo \"2 new\" | \"$CQDB\" make image'";
+    let ran = folder.shell(line);
+    if ran.status == Some(77) || ran.err.starts_with("unshare: ") {
+        eprintln!("skipped: 'unshare' cannot mount here");
+        return;
+    }
+    let ran = ran.gives(2).prints("");
+    assert!(ran.err.starts_with("cqdb: make: cannot write image: "), "{}", ran.err);
+    assert!(folder.read("image") == old && folder.files() == ["image"]);
+}

@@ -40,7 +40,7 @@ impl Folder {
 
     /// Runs the tool with an input.
     pub fn with(&self, input: impl AsRef<[u8]>, words: &[&str]) -> Ran {
-        self.run(Command::new(TOOL).args(words), input.as_ref())
+        self.run(Command::new(TOOL).args(words), input.as_ref(), Stdio::piped())
     }
 
     /// Runs the tool without an input.
@@ -51,7 +51,25 @@ impl Folder {
     /// Runs a line of a shell, in which $CQDB is the tool.
     #[allow(dead_code)]
     pub fn shell(&self, line: &str) -> Ran {
-        self.run(Command::new("bash").args(["-c", line]).env("CQDB", TOOL), b"")
+        self.run(Command::new("bash").args(["-c", line]).env("CQDB", TOOL), b"", Stdio::piped())
+    }
+
+    /// Runs the tool with an output that nobody reads any longer.
+    #[allow(dead_code)]
+    pub fn unread(&self, input: impl AsRef<[u8]>, words: &[&str]) -> Ran {
+        let mut reader = Command::new("true").stdin(Stdio::piped()).spawn().unwrap();
+        let pipe = reader.stdin.take().unwrap();
+        reader.wait().unwrap();
+        self.run(Command::new(TOOL).args(words), input.as_ref(), Stdio::from(pipe))
+    }
+
+    /// Runs the tool with the output that a shell's words say.
+    #[allow(dead_code)]
+    pub fn redirected(&self, to: &str, input: impl AsRef<[u8]>, words: &[&str]) -> Ran {
+        let line = format!("exec \"$CQDB\" \"$@\" {to}");
+        let mut command = Command::new("bash");
+        let command = command.args(["-c", &line, "bash"]).args(words).env("CQDB", TOOL);
+        self.run(command, input.as_ref(), Stdio::piped())
     }
 
     /// Makes an image of the list; both are called by the name.
@@ -67,8 +85,8 @@ impl Folder {
         firsts.map(str::to_string).collect()
     }
 
-    fn run(&self, command: &mut Command, input: &[u8]) -> Ran {
-        let command = command.current_dir(&self.0).stdin(Stdio::piped()).stdout(Stdio::piped()).stderr(Stdio::piped());
+    fn run(&self, command: &mut Command, input: &[u8], output: Stdio) -> Ran {
+        let command = command.current_dir(&self.0).stdin(Stdio::piped()).stdout(output).stderr(Stdio::piped());
         let mut child = command.spawn().unwrap();
         let mut stdin = child.stdin.take().unwrap();
         let output = std::thread::scope(|scope| {

@@ -2,12 +2,12 @@
 use std::os::unix::ffi::OsStrExt;
 
 use crate::args::{Args, Opt, ALL, TAB};
+use crate::csv::{self, CSV};
+use crate::json::{self, JSON};
 use crate::lines;
 use crate::outcome::{Failure, Output};
+use crate::tsv::{self, TSV};
 
-pub const JSON: Opt = Opt::plain("--json", "an object of JSON for each answer, one to a line");
-pub const TSV: Opt =
-    Opt::plain("--tsv", "a tab between; tab, line feed, CR and backslash in a name are \\t \\n \\r \\\\");
 pub const QUIET: Opt =
     Opt { short: Some(b'q'), ..Opt::plain("--quiet", "the bare value, and no messages on what is not found") };
 pub const MISSING: Opt =
@@ -41,19 +41,21 @@ pub struct Form<'a> {
 enum Layout {
     Line,
     Bare,
+    Csv,
     Tsv,
     Json,
 }
 
 impl<'a> Form<'a> {
     pub fn new(args: &'a Args, value: Value) -> Result<Form<'a>, Failure> {
-        args.not_both(&[&JSON, &TSV, &TAB])?;
-        args.not_both(&[&JSON, &TSV, &QUIET])?;
+        args.not_both(&[&CSV, &JSON, &TSV, &TAB])?;
+        args.not_both(&[&CSV, &JSON, &TSV, &QUIET])?;
         args.not_both(&[&JSON, &MISSING])?;
-        let layouts = [(&JSON, Layout::Json), (&TSV, Layout::Tsv), (&QUIET, Layout::Bare)];
+        let layouts = [(&CSV, Layout::Csv), (&JSON, Layout::Json), (&TSV, Layout::Tsv), (&QUIET, Layout::Bare)];
         let layout =
             layouts.into_iter().find(|(option, _)| args.has(option)).map_or(Layout::Line, |(_, layout)| layout);
         let (between, end) = match layout {
+            Layout::Csv => (b',', b'\n'),
             Layout::Tsv => (b'\t', b'\n'),
             Layout::Json => (b' ', b'\n'),
             _ => (args.between(), args.end()),
@@ -80,7 +82,7 @@ impl<'a> Form<'a> {
             (!bare || self.value == Value::Name, name),
         ];
         let fields = fields.into_iter().filter(|(printed, _)| *printed).map(|(_, field)| field);
-        if self.layout != Layout::Tsv {
+        if !matches!(self.layout, Layout::Csv | Layout::Tsv) {
             if let Some(field) = fields.clone().find(|field| field.contains(&self.end)) {
                 return Err(self.two_lines(row.id, field));
             }
@@ -90,8 +92,9 @@ impl<'a> Form<'a> {
                 out.bytes(&[self.between])?;
             }
             match self.layout {
-                Layout::Tsv => escaped(out, field)?,
-                _ => out.bytes(field)?,
+                Layout::Csv => csv::print(out, field)?,
+                Layout::Tsv => tsv::print(out, field)?,
+                _ => out.name(field)?,
             }
         }
         out.bytes(&[self.end])
@@ -100,8 +103,11 @@ impl<'a> Form<'a> {
     /// A name that holds the byte that ends a line would be read as two.
     fn two_lines(&self, id: Option<u32>, field: &[u8]) -> Failure {
         let whose = id.map_or(lines::shown(field), |id| format!("the name of id {id}"));
-        let what =
-            if self.end == 0 { "a zero byte: leave --zero out" } else { "a line feed: say --zero, --tsv or --json" };
+        let what = if self.end == 0 {
+            "a zero byte: leave --zero out"
+        } else {
+            "a line feed: say --zero, --csv, --tsv or --json"
+        };
         Failure::new(format!("{whose} has {what}"))
     }
 
@@ -113,70 +119,11 @@ impl<'a> Form<'a> {
         }
         if let Some(word) = word {
             out.bytes(b"\"question\":")?;
-            quoted(out, word)?;
+            json::quoted(out, word)?;
             out.bytes(b",")?;
         }
-        out.bytes(format!("\"id\":{},\"name\":", number(row.id.map(u64::from))).as_bytes())?;
-        match row.name {
-            None => out.bytes(b"null")?,
-            Some(name) => {
-                quoted(out, name)?;
-                if std::str::from_utf8(name).is_err() {
-                    out.bytes(b",\"hex\":\"")?;
-                    name.iter().try_for_each(|byte| out.bytes(format!("{byte:02x}").as_bytes()))?;
-                    out.bytes(b"\"")?;
-                }
-            }
-        }
+        out.bytes(format!("\"id\":{},", number(row.id.map(u64::from))).as_bytes())?;
+        json::print(out, "name", "hex", row.name)?;
         out.bytes(b"}\n")
-    }
-}
-
-/// Prints a name as a field of a table: one line, without a tab.
-fn escaped(out: &mut Output, field: &[u8]) -> Result<(), Failure> {
-    for part in field.split_inclusive(|byte| b"\t\n\r\\".contains(byte)) {
-        let (last, before) = part.split_last().expect("a part has its last byte");
-        match last {
-            b'\t' => out.line(&[before, b"\\"], b't')?,
-            b'\n' => out.line(&[before, b"\\"], b'n')?,
-            b'\r' => out.line(&[before, b"\\"], b'r')?,
-            b'\\' => out.line(&[before, b"\\"], b'\\')?,
-            _ => out.bytes(part)?,
-        }
-    }
-    Ok(())
-}
-
-/// Prints a text of JSON. Bytes that are no text are shown as the replacement character.
-fn quoted(out: &mut Output, bytes: &[u8]) -> Result<(), Failure> {
-    out.bytes(b"\"")?;
-    let mut rest = bytes;
-    while !rest.is_empty() {
-        let (text, behind) = match std::str::from_utf8(rest) {
-            Ok(text) => (text, rest.len()),
-            Err(error) => {
-                let end = error.valid_up_to();
-                let wrong = error.error_len().unwrap_or(rest.len() - end);
-                (std::str::from_utf8(&rest[..end]).unwrap_or(""), end + wrong)
-            }
-        };
-        text.chars().try_for_each(|letter| quoted_letter(out, letter))?;
-        if text.len() < behind {
-            out.bytes("\u{fffd}".as_bytes())?;
-        }
-        rest = &rest[behind..];
-    }
-    out.bytes(b"\"")
-}
-
-fn quoted_letter(out: &mut Output, letter: char) -> Result<(), Failure> {
-    match letter {
-        '"' => out.bytes(b"\\\""),
-        '\\' => out.bytes(b"\\\\"),
-        '\n' => out.bytes(b"\\n"),
-        '\r' => out.bytes(b"\\r"),
-        '\t' => out.bytes(b"\\t"),
-        letter if letter < ' ' => out.bytes(format!("\\u{:04x}", letter as u32).as_bytes()),
-        letter => out.bytes(letter.encode_utf8(&mut [0; 4]).as_bytes()),
     }
 }

@@ -69,6 +69,8 @@ impl Command {
 
 /// The options that were given, with their values, and the operands.
 pub struct Args {
+    /// The options that the command has.
+    known: &'static [Opt],
     given: Vec<(&'static str, OsString)>,
     operands: Vec<OsString>,
 }
@@ -76,7 +78,7 @@ pub struct Args {
 impl Args {
     /// None where the help was asked for.
     pub fn parse(command: &Command, words: Vec<OsString>) -> Result<Option<Args>, Failure> {
-        let mut args = Args { given: Vec::new(), operands: Vec::new() };
+        let mut args = Args { known: command.options, given: Vec::new(), operands: Vec::new() };
         let mut words = words.into_iter();
         while let Some(word) = words.next() {
             match word.as_bytes() {
@@ -128,6 +130,11 @@ impl Args {
 
     pub fn has(&self, option: &Opt) -> bool {
         self.value(option).is_some()
+    }
+
+    /// Does the command have the option?
+    pub fn knows(&self, option: &Opt) -> bool {
+        self.known.iter().any(|known| known.long == option.long)
     }
 
     /// The value of an option that was given; of the last where it was given again.

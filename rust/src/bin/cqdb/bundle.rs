@@ -4,8 +4,8 @@ use std::path::Path;
 use cqdb::{Bundle, Refusal};
 
 use crate::args::{Args, Command};
-use crate::files::{self, Bytes};
-use crate::kind::Kind;
+use crate::files::{self, Source};
+use crate::kind::{self, Images, Kind};
 use crate::lines;
 use crate::outcome::{self, Answer, Failure, Outcome, Output};
 use crate::replace::{Locked, Target, FORCE};
@@ -17,7 +17,8 @@ pub const COMMAND: Command = Command {
     text: "
 A bundle holds images one behind the other; an empty file, or one that is not
 there yet, holds none. 'append' puts each IMAGE behind the last, or to standard
-output where the BUNDLE is called -; runs side by side wait for each other.
+output where the BUNDLE is called -; runs side by side wait for each other. An
+IMAGE may be one of a bundle, as OTHER:1; a whole bundle is not appended.
 'list' prints a line for each image: its position from 0, its number of entries
 and its size. 'extract' writes the image at a position to a file of its own, or
 to standard output where it is called -; the exit status is 1 where the bundle
@@ -44,8 +45,9 @@ fn refused(path: &Path, refusal: Refusal) -> Failure {
 /// Puts images behind those of a bundle; standard output has none before.
 fn append(args: &Args) -> Outcome {
     let path = args.path(1);
-    let images = (2..args.count()).map(|at| args.path(at));
-    let images = images.map(|image| Ok((image, files::read(image)?))).collect::<Result<Vec<_>, Failure>>()?;
+    let images = (2..args.count()).map(|at| Source::open(args.path(at))).collect::<Result<Vec<_>, Failure>>()?;
+    let images =
+        images.iter().map(|image| Ok((image.name(), one_image(image)?))).collect::<Result<Vec<_>, Failure>>()?;
     if path == Path::new("-") {
         let (file, _) = joined(path, &[], &images)?;
         let mut out = Output::new();
@@ -65,14 +67,33 @@ fn append(args: &Args) -> Outcome {
     Ok(Answer::Yes)
 }
 
+/// The bytes of an image that is to be appended. Several images are not one.
+fn one_image(image: &Source) -> Result<&[u8], Failure> {
+    let (bytes, name) = (image.bytes()?, image.name());
+    match kind::images(bytes) {
+        Images::One => Ok(bytes),
+        Images::Several(images) => Err(Failure::new(format!(
+            "{name} is a bundle of {images} images, and an image is appended: {name}:0 to {name}:{} name them",
+            images - 1
+        ))),
+        Images::Broken => Err(Failure::new(format!(
+            "{name} is a broken bundle, and an image is appended: {name}:0 names its first (refusal {})",
+            Refusal::BrokenBundle.number()
+        ))),
+    }
+}
+
 /// The bundle with images behind its last, and how many it has then.
-fn joined(path: &Path, old: &[u8], images: &[(&Path, Bytes)]) -> Result<(Vec<u8>, u64), Failure> {
+fn joined(path: &Path, old: &[u8], images: &[(String, &[u8])]) -> Result<(Vec<u8>, u64), Failure> {
     let mut file = Vec::new();
     let length = old.len() + images.iter().map(|(_, image)| image.len()).sum::<usize>();
     outcome::reserve(&mut file, length, || path.display().to_string())?;
     file.extend_from_slice(old);
-    for (image, bytes) in images {
-        Bundle::append(&mut file, bytes).map_err(|refusal| refused(image, refusal))?;
+    for (name, bytes) in images {
+        Bundle::append(&mut file, bytes).map_err(|refusal| {
+            let what = "cannot be appended: it is no image, or its size word is not its length";
+            Failure::new(format!("{name} {what} (refusal {})", refusal.number()))
+        })?;
     }
     let after = Bundle::new(&file).count().map_err(|refusal| refused(path, refusal))?;
     Ok((file, after))
@@ -101,9 +122,18 @@ fn extract(args: &Args) -> Outcome {
     let target = Target::new(args, 3, Kind::Image)?;
     let file = files::read(path)?;
     match Bundle::new(&file).open(position.into()) {
-        Ok(db) => target.replace(db.bytes(), "").map(|()| Answer::Yes),
+        Ok(db) => {
+            let (entries, size) = (outcome::count(db.num().into(), "entry", "entries"), db.bytes().len());
+            target.replace(db.bytes(), &format!("{}: {entries}, {size} bytes\n", args.path(3).display()))?;
+            Ok(Answer::Yes)
+        }
         Err(Refusal::NoSuchImage) => {
-            outcome::tell(&format!("bundle: {}", files::refusal_in_words(Refusal::NoSuchImage)));
+            let images = Bundle::new(&file).count().map_err(|refusal| refused(path, refusal))?;
+            let (shown, images) = (files::shown(path), outcome::count(images, "image", "images"));
+            let refusal = Refusal::NoSuchImage.number();
+            outcome::tell(&format!(
+                "bundle: {shown} has {images}, and none at position {position} (refusal {refusal})"
+            ));
             Ok(Answer::No)
         }
         Err(refusal) => Err(refused(path, refusal)),

@@ -2,7 +2,8 @@
 use std::ffi::OsStr;
 use std::io::{self, BufRead, Read};
 
-use crate::args::Opt;
+use crate::args::{Args, Opt};
+use crate::input::{Input, INCOMPLETE};
 use crate::lines;
 use crate::outcome::{self, Failure, Output};
 
@@ -11,7 +12,9 @@ pub const CDB: Opt = Opt::plain("--cdb", "records of cdb, +klen,dlen:key->data, 
 /// Prints the record of a name and its id.
 pub fn print(out: &mut Output, name: &[u8], id: u32) -> Result<(), Failure> {
     let data = id.to_string();
-    out.line(&[format!("+{},{}:", name.len(), data.len()).as_bytes(), name, b"->", data.as_bytes()], b'\n')
+    out.bytes(format!("+{},{}:", name.len(), data.len()).as_bytes())?;
+    out.name(name)?;
+    out.line(&[b"->", data.as_bytes()], b'\n')
 }
 
 /// A record with its number, counted from 1.
@@ -23,9 +26,9 @@ pub struct Record<'a> {
 
 /// The records of an input.
 pub struct Records {
-    input: Box<dyn BufRead>,
-    /// What messages call the input.
-    pub name: String,
+    input: Input,
+    /// Are records taken that no empty line follows?
+    incomplete: bool,
     number: u64,
     key: Vec<u8>,
     data: Vec<u8>,
@@ -33,9 +36,14 @@ pub struct Records {
 
 impl Records {
     /// Of the file, or of standard input where there is none or it is called `-`.
-    pub fn open(path: Option<&OsStr>) -> Result<Records, Failure> {
-        let (input, name) = lines::input(path)?;
-        Ok(Records { input, name, number: 0, key: Vec::new(), data: Vec::new() })
+    pub fn open(args: &Args, path: Option<&OsStr>) -> Result<Records, Failure> {
+        let (input, incomplete) = (Input::open(path)?, args.has(&INCOMPLETE));
+        Ok(Records { input, incomplete, number: 0, key: Vec::new(), data: Vec::new() })
+    }
+
+    /// What messages call the input.
+    pub fn name(&self) -> &str {
+        &self.input.name
     }
 
     /// The next record. None behind the last. Behind a record of another form nobody knows where the
@@ -53,15 +61,15 @@ impl Records {
     fn failed(&self, error: Option<io::Error>) -> Failure {
         match error {
             Some(error) if error.kind() != io::ErrorKind::UnexpectedEof => {
-                Failure::new(format!("cannot read {}: {error}", self.name))
+                Failure::new(format!("cannot read {}: {error}", self.input.name))
             }
-            _ => Failure::new(format!("{}, record {}: not +klen,dlen:key->data", self.name, self.number)),
+            _ => Failure::new(format!("{}, record {}: not +klen,dlen:key->data", self.input.name, self.number)),
         }
     }
 
     fn bytes(&mut self, length: u32) -> Result<Vec<u8>, Failure> {
         let mut bytes = Vec::new();
-        outcome::reserve(&mut bytes, length as usize, || format!("record {} of {}", self.number, self.name))?;
+        outcome::reserve(&mut bytes, length as usize, || format!("record {} of {}", self.number, self.input.name))?;
         let read = self.input.by_ref().take(length.into()).read_to_end(&mut bytes);
         match read {
             Ok(read) if read == length as usize => Ok(bytes),
@@ -76,14 +84,14 @@ impl Records {
         }
     }
 
-    /// The lengths of key and data; none where an empty line or the end of the input stands in their place.
+    /// The lengths of key and data; none where the empty line stands in their place.
     fn lengths(&mut self) -> Result<Option<(u32, u32)>, Failure> {
         let mut head = Vec::new();
         // Two numbers of ten digits, a plus sign, a comma and a colon.
         let read = self.input.by_ref().take(1).read_to_end(&mut head);
         read.map_err(|error| self.failed(Some(error)))?;
         if head.is_empty() || head == b"\n" {
-            return Ok(None);
+            return self.end(head.is_empty()).map(|()| None);
         }
         let read = self.input.by_ref().take(22).read_until(b':', &mut head);
         read.map_err(|error| self.failed(Some(error)))?;
@@ -93,5 +101,20 @@ impl Records {
             Some((lines::id_of(&numbers[..at])?, lines::id_of(&numbers[at + 1..])?))
         });
         pair.map(Some).ok_or_else(|| self.failed(None))
+    }
+
+    /// The end of the records: an empty line, with nothing behind it. Records that were cut behind one of them have none.
+    fn end(&mut self, cut: bool) -> Result<(), Failure> {
+        let (name, option) = (&self.input.name, INCOMPLETE.long);
+        if cut && !self.incomplete {
+            return Err(Failure::new(format!(
+                "{name} ends behind record {} without an empty line, so it may be cut: {option} takes it",
+                self.number - 1
+            )));
+        }
+        if !self.input.fill()?.0.is_empty() {
+            return Err(Failure::new(format!("{}: something stands behind the empty line", self.input.name)));
+        }
+        self.input.at_end()
     }
 }

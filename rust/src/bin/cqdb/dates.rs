@@ -38,7 +38,7 @@ impl Windows {
     /// Reads the lines of a file: an id, its first date and the date from which on it stands no longer.
     pub fn read(args: &Args, path: &Path, date: Date) -> Result<Windows, Failure> {
         let form = "an id, a first date and an end date as 2024-03-31, a space between";
-        let mut list = Lines::open(Some(path.as_os_str()), b'\n')?.parsed(args, form, window_of)?;
+        let mut list = Lines::of_list(args, Some(path.as_os_str()), b'\n')?.parsed(args, form, window_of)?;
         if let Err(refusal) = refusal_of(date, &list) {
             return Err(refused(path, date, &list, refusal));
         }
@@ -67,13 +67,30 @@ fn refusal_of(date: Date, windows: &[Window]) -> Result<(), Refusal> {
     opened.name_on(0, date, windows).map(|_| ())
 }
 
-/// The failure, with the line that the refusal is about.
+/// The failure, with the date or the line that the refusal is about.
 fn refused(path: &Path, date: Date, windows: &[Window], refusal: Refusal) -> Failure {
-    let words = files::refusal_in_words(refusal);
-    if refusal_of(date, &[]).is_err() {
-        return Failure::new(format!("the date asked about: {words}"));
+    if let Err(refusal) = refusal_of(date, &[]) {
+        return Failure::new(format!("the date asked about, {}, {}", shown(date), no_day(refusal)));
     }
     let line = windows.iter().position(|window| refusal_of(date, &[*window]) == Err(refusal));
+    let what = line.map(|line| &windows[line]).map_or_else(
+        || files::refusal_in_words(refusal),
+        |window| match refusal {
+            Refusal::NoSuchDate if refusal_of(window.first, &[]).is_err() => {
+                format!("the first date, {}, {}", shown(window.first), no_day(refusal))
+            }
+            Refusal::NoSuchDate => format!("the end date, {}, {}", shown(window.end), no_day(refusal)),
+            _ => files::refusal_in_words(refusal),
+        },
+    );
     let line = line.map_or(String::new(), |line| format!(", line {}", line + 1));
-    Failure::new(format!("{}{line}: {words}", files::shown(path)))
+    Failure::new(format!("{}{line}: {what}", files::shown(path)))
+}
+
+fn shown(date: Date) -> String {
+    format!("{:04}-{:02}-{:02}", date.year, date.month, date.day)
+}
+
+fn no_day(refusal: Refusal) -> String {
+    format!("is no day of the years 1900 to 2199 (refusal {})", refusal.number())
 }

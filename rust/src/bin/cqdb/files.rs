@@ -12,7 +12,7 @@ use cqdb::{Bundle, Refusal, CQDB};
 use crate::kind::{self, Images};
 use crate::lines;
 use crate::outcome::{self, Failure, Outcome, Output};
-use crate::system::Map;
+use crate::system::{self, Map};
 
 /// The bytes of a file.
 pub enum Bytes {
@@ -45,6 +45,9 @@ pub fn standard_input() -> Result<io::Stdin, Failure> {
     static TAKEN: AtomicBool = AtomicBool::new(false);
     if TAKEN.swap(true, Ordering::Relaxed) {
         return Err(Failure::new("standard input is meant twice, and can be read once"));
+    }
+    if !system::standard_input_is_open() {
+        return Err(Failure::new("cannot read standard input: it is closed"));
     }
     Ok(io::stdin())
 }
@@ -108,6 +111,14 @@ impl Source {
         }
     }
 
+    /// The bytes of the image at the position, or of the whole file.
+    pub fn bytes(&self) -> Result<&[u8], Failure> {
+        match self.position {
+            Some(_) => Ok(self.image()?.bytes()),
+            None => Ok(&self.bytes),
+        }
+    }
+
     /// The image, or the error that opening it gives. A file of several images fails, since one of them is meant.
     pub fn opened(&self) -> Result<io::Result<CQDB<'_>>, Failure> {
         let path = shown(&self.path);
@@ -115,7 +126,7 @@ impl Source {
             (Some(position), _) => Ok(Bundle::new(&self.bytes).open(position).map_err(io::Error::from)),
             (None, Images::One) => Ok(CQDB::new(&self.bytes)),
             (None, Images::Several(images)) => Err(Failure::new(format!(
-                "{path} is a bundle of {images} images: {path}:0 to {path}:{} name them; id, name and list take --all",
+                "{path} is a bundle of {images} images: {path}:0 to {path}:{} name them; id, name, list and diff take --all",
                 images - 1
             ))),
             (None, Images::Broken) => Err(Failure::new(format!(

@@ -24,7 +24,9 @@ fn run(args: Args) -> Outcome {
     questions::rounds(&args, 0, |names| {
         names.iter().try_for_each(|name| {
             let hash = jhash(name, 0).map_err(files::refused)?;
-            out.line(&[format!("{hash:08x} ").as_bytes(), name], args.end())
+            out.bytes(format!("{hash:08x} ").as_bytes())?;
+            out.name(name)?;
+            out.bytes(&[args.end()])
         })?;
         out.flush()
     })?;

@@ -1,10 +1,13 @@
 //! `cqdb id`: the ids of names.
 use cqdb::CQDB;
 
-use crate::answers::{Row, Value, JSON, MISSING, QUIET, TSV};
+use crate::answers::{Row, Value, MISSING, QUIET};
 use crate::args::{Args, Command, ALL, TAB, WINDOWS, ZERO};
+use crate::csv::CSV;
+use crate::json::JSON;
 use crate::outcome::{Failure, Outcome};
 use crate::questions::{self, Question, Said};
+use crate::tsv::TSV;
 use crate::{files, lines};
 
 pub const COMMAND: Command = Command {
@@ -18,7 +21,7 @@ lacks has an empty id, or the text of --missing; it is told on standard error,
 and the exit status is then 1. Up to 512 names are looked up in one call.
 BUNDLE:1 is the second image of a bundle; --all asks every image.
 ",
-    options: &[ALL, JSON, MISSING, QUIET, TAB, TSV, WINDOWS, ZERO],
+    options: &[ALL, CSV, JSON, MISSING, QUIET, TAB, TSV, WINDOWS, ZERO],
     operands: (1, usize::MAX),
     run,
 };

@@ -3,9 +3,12 @@ use std::collections::HashMap;
 
 use cqdb::CQDB;
 
-use crate::answers::{Form, Row, Value, JSON, MISSING, QUIET, TSV};
+use crate::answers::{Form, Row, Value, MISSING, QUIET};
 use crate::args::{Args, Command, TAB, WINDOWS, ZERO};
+use crate::csv::CSV;
+use crate::json::JSON;
 use crate::outcome::{self, Failure, Outcome};
+use crate::tsv::TSV;
 use crate::{files, lines, list, questions};
 
 pub const COMMAND: Command = Command {
@@ -19,7 +22,7 @@ prints the first. Without a NAME, names are read from standard input. A name tha
 no id has is told, as by 'cqdb id', and the exit status is then 1. Of a one-way
 image, whose ids have no names, the ids of all puts are printed, in put order.
 ",
-    options: &[JSON, MISSING, QUIET, TAB, TSV, WINDOWS, ZERO],
+    options: &[CSV, JSON, MISSING, QUIET, TAB, TSV, WINDOWS, ZERO],
     operands: (1, usize::MAX),
     run,
 };
@@ -62,9 +65,8 @@ fn named<'a>(db: &CQDB<'a>) -> Result<Named<'a>, Failure> {
         Ok(())
     };
     if list::names_none(db) {
-        let puts = db
-            .puts()
-            .ok_or_else(|| Failure::new("the image is one-way, and not canonical: it has no list of puts"))?;
+        let puts =
+            db.puts().ok_or_else(|| Failure::new("the image is one-way, and not canonical: it has no list of puts"))?;
         puts.into_iter().try_for_each(|(name, id)| note(name, id))?;
         return Ok(named);
     }

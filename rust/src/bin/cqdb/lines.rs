@@ -1,57 +1,116 @@
 //! Lines of a file or of standard input.
 use std::ffi::OsStr;
 use std::fmt;
-use std::fs::File;
-use std::io::{BufRead, BufReader, IsTerminal};
+use std::io::BufRead;
 use std::path::Path;
 
 use crate::args::{Args, WINDOWS, ZERO};
-use crate::files;
+use crate::input::{Input, INCOMPLETE};
 use crate::outcome::{self, Failure};
 
 /// The lines of an input, counted from 1.
 pub struct Lines {
-    input: Box<dyn BufRead>,
-    /// What messages call the input.
-    pub name: String,
+    input: Input,
     end: u8,
+    last: Last,
     number: u64,
     line: Vec<u8>,
 }
 
+/// What is done with a last line that no end follows.
+enum Last {
+    Taken,
+    /// The message ends with these words.
+    Refused(String),
+}
+
 impl Lines {
-    /// Of the file, or of standard input where there is none or it is called `-`.
-    pub fn open(path: Option<&OsStr>, end: u8) -> Result<Lines, Failure> {
-        let (input, name) = input(path)?;
-        Ok(Lines { input, name, end, number: 0, line: Vec::new() })
+    /// The lines of a list: a file, or standard input where there is none or it is called `-`. A list may have been cut in
+    /// the middle of a name or an id, so one whose last line has no end fails, unless that was asked for.
+    pub fn of_list(args: &Args, path: Option<&OsStr>, end: u8) -> Result<Lines, Failure> {
+        let option = if args.knows(&INCOMPLETE) { format!(": {} takes it", INCOMPLETE.long) } else { String::new() };
+        let last = if args.has(&INCOMPLETE) { Last::Taken } else { Last::Refused(option) };
+        Ok(Lines { input: Input::open(path)?, end, last, number: 0, line: Vec::new() })
+    }
+
+    /// The lines of standard input, each a question whose answer repeats it; the last one needs no end.
+    pub fn of_questions(end: u8) -> Result<Lines, Failure> {
+        Ok(Lines { input: Input::open(None)?, end, last: Last::Taken, number: 0, line: Vec::new() })
+    }
+
+    /// What messages call the input.
+    pub fn name(&self) -> &str {
+        &self.input.name
     }
 
     /// The next line with its number, without the byte that ends it; none at the end of the input.
     pub fn read(&mut self) -> Result<Option<(u64, &[u8])>, Failure> {
         self.line.clear();
         self.number += 1;
+        match self.append()? {
+            true => Ok(Some((self.number, &self.line))),
+            false => Ok(None),
+        }
+    }
+
+    /// The line that was read last, with the next one behind it and the byte between them; none at the end of the input.
+    /// It keeps its number.
+    pub fn read_on(&mut self) -> Result<Option<(u64, &[u8])>, Failure> {
+        let (number, end) = (self.number, self.end);
+        self.extend(&[end])?;
+        self.number += 1;
+        match self.append()? {
+            true => Ok(Some((number, &self.line))),
+            false => Ok(None),
+        }
+    }
+
+    /// The line that was read last.
+    pub fn last(&self) -> &[u8] {
+        &self.line
+    }
+
+    /// Reads a line behind those that are there. False at the end of the input.
+    fn append(&mut self) -> Result<bool, Failure> {
         let mut any = false;
         loop {
-            let piece = self.input.fill_buf().map_err(|error| files::cannot_read(Path::new(&self.name), error))?;
-            any |= !piece.is_empty();
+            let (piece, name) = self.input.fill()?;
             if piece.is_empty() {
-                return Ok(any.then_some((self.number, &self.line)));
+                self.input.at_end()?;
+                return if any { self.without_end().map(|()| true) } else { Ok(false) };
             }
+            any = true;
             let end = piece.iter().position(|byte| *byte == self.end);
             let part = &piece[..end.unwrap_or(piece.len())];
-            outcome::reserve(&mut self.line, part.len(), || format!("line {} of {}", self.number, self.name))?;
-            self.line.extend_from_slice(part);
+            let (line, number) = (&mut self.line, self.number);
+            outcome::reserve(line, part.len(), || format!("line {number} of {name}"))?;
+            line.extend_from_slice(part);
             let read = part.len() + usize::from(end.is_some());
             self.input.consume(read);
             if end.is_some() {
-                return Ok(Some((self.number, &self.line)));
+                return Ok(true);
             }
         }
     }
 
+    fn extend(&mut self, bytes: &[u8]) -> Result<(), Failure> {
+        outcome::reserve(&mut self.line, bytes.len(), || format!("line {} of {}", self.number, self.input.name))?;
+        self.line.extend_from_slice(bytes);
+        Ok(())
+    }
+
+    /// What is said of a last line that no end follows.
+    fn without_end(&self) -> Result<(), Failure> {
+        let Last::Refused(option) = &self.last else { return Ok(()) };
+        let (name, number, line) = (&self.input.name, self.number, shown(&self.line));
+        let end = if self.end == 0 { "zero byte" } else { "line feed" };
+        let what = format!("the list ends without a {end} behind {line}, so it may be cut");
+        Err(Failure::new(format!("{name}, line {number}: {what}{option}")))
+    }
+
     /// What `parse` makes of each line. A line of another form is a failure that says what it is not.
     pub fn parsed<T>(mut self, args: &Args, form: &str, parse: impl Fn(&[u8]) -> Option<T>) -> Result<Vec<T>, Failure> {
-        let (name, mut list) = (self.name.clone(), Vec::new());
+        let (name, mut list) = (self.input.name.clone(), Vec::new());
         while let Some((number, line)) = self.read()? {
             let at = |what: String| Failure::new(format!("{name}, line {number}: {what}"));
             let line = without_windows(args, number, line).map_err(|what| at(what.to_string()))?;
@@ -60,24 +119,6 @@ impl Lines {
             list.push(item);
         }
         Ok(list)
-    }
-}
-
-/// A file, or standard input where there is none or it is called `-`; and what messages call it.
-pub fn input(path: Option<&OsStr>) -> Result<(Box<dyn BufRead>, String), Failure> {
-    const BUFFER: usize = 1 << 16;
-    match path {
-        Some(path) if path != "-" => {
-            let file = File::open(path).map_err(|error| files::cannot_read(Path::new(path), error))?;
-            Ok((Box::new(BufReader::with_capacity(BUFFER, file)), path.to_string_lossy().into_owned()))
-        }
-        _ => {
-            let input = files::standard_input()?;
-            if input.is_terminal() {
-                outcome::tell("lines are read from the terminal; Ctrl-D ends them");
-            }
-            Ok((Box::new(BufReader::with_capacity(BUFFER, input)), "standard input".to_string()))
-        }
     }
 }
 
@@ -133,7 +174,7 @@ pub fn fields<const N: usize>(line: &[u8]) -> Option<[&[u8]; N]> {
 
 /// The ids of a file, one to a line.
 pub fn ids(args: &Args, path: &Path) -> Result<Vec<u32>, Failure> {
-    Lines::open(Some(path.as_os_str()), b'\n')?.parsed(args, "a decimal id up to 4294967295", id_of)
+    Lines::of_list(args, Some(path.as_os_str()), b'\n')?.parsed(args, "a decimal id up to 4294967295", id_of)
 }
 
 /// Bytes as a message shows them: text, at most 40 letters of it.

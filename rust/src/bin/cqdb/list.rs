@@ -1,11 +1,14 @@
 //! `cqdb list`: all ids with their names.
 use cqdb::CQDB;
 
-use crate::answers::{Form, Row, Value, JSON, TSV};
+use crate::answers::{Form, Row, Value};
 use crate::args::{Args, Command, Opt, ALL, TAB, ZERO};
 use crate::cdb::{self, CDB};
+use crate::csv::CSV;
 use crate::files::Source;
+use crate::json::JSON;
 use crate::outcome::{Answer, Failure, Outcome, Output};
+use crate::tsv::TSV;
 
 const PUTS: Opt = Opt::plain("--puts", "every put in put order, of a canonical image");
 
@@ -17,17 +20,18 @@ pub const COMMAND: Command = Command {
 Prints a line for each id that has a name: the id, a space and the name. That is
 the form that 'cqdb make' reads. A one-way image names no ids. With --puts every
 put is printed, also of a one-way image; 'cqdb make --repeats --renamed' makes the
-same image of these lines. An image that is not canonical has no such list: the
-exit status is then 1. BUNDLE:1 is the second image of a bundle; --all lists every
-image.
+same image of these lines, with --blank and --alike where its names need them. An
+image that is not canonical has no such list: the exit status is then 1. --csv,
+--json, --tsv, --cdb and --zero keep every byte of a name, and 'cqdb make' reads
+them. BUNDLE:1 is the second image of a bundle; --all lists every image.
 ",
-    options: &[ALL, CDB, JSON, PUTS, TAB, TSV, ZERO],
+    options: &[ALL, CDB, CSV, JSON, PUTS, TAB, TSV, ZERO],
     operands: (1, 1),
     run,
 };
 
 fn run(args: Args) -> Outcome {
-    args.not_both(&[&CDB, &JSON, &TSV, &TAB, &ZERO])?;
+    args.not_both(&[&CDB, &CSV, &JSON, &TSV, &TAB, &ZERO])?;
     args.not_both(&[&CDB, &ALL])?;
     let source = Source::open(args.path(0))?;
     let images = if args.has(&ALL) { source.images()? } else { vec![(0, source.image()?)] };

@@ -1,5 +1,6 @@
 //! `cqdb`: makes, asks and checks constant quark database images from a shell. Each command is a file of its own, over
 //! the crate's calls; COMMANDS lists them. The exit status is 0, 1 (not found, or no) or 2 (it could not be done).
+mod alike;
 mod answers;
 mod args;
 mod bundle;
@@ -7,14 +8,19 @@ mod cdb;
 mod check;
 mod compare;
 mod completions;
+mod csv;
 mod dates;
 mod diff;
+mod difference;
 mod files;
 mod hash;
 mod home;
 mod id;
 mod ids;
+mod input;
+mod json;
 mod kind;
+mod letters;
 mod lines;
 mod list;
 mod load;
@@ -35,9 +41,10 @@ mod replace;
 mod sheet;
 mod stats;
 mod system;
+mod tsv;
 
 use std::ffi::OsString;
-use std::io::Write;
+use std::io::{self, Write};
 use std::process::ExitCode;
 
 use args::{Args, Command};
@@ -70,13 +77,17 @@ fn main() -> ExitCode {
     system::tell_where_a_file_was_cut();
     let mut words = std::env::args_os().skip(1);
     let Some(first) = words.next() else {
-        eprint!("{}", overview());
+        let _ = io::stderr().write_all(overview().as_bytes());
         return ExitCode::from(2);
     };
     outcome::exit(&first.to_string_lossy(), run(&first, words.collect()))
 }
 
 fn run(first: &OsString, words: Vec<OsString>) -> Outcome {
+    // Every command prints something, so nothing is done where that cannot be.
+    if !system::standard_output_is_open() {
+        return Err(Failure::new("cannot write to standard output: it is closed"));
+    }
     match first.to_str() {
         Some("--help" | "-h" | "help") => match words.first() {
             Some(command) => outcome::say(&command_of(command)?.help()),

@@ -1,6 +1,12 @@
 //! `cqdb make`: an image from a list.
+use std::borrow::Cow;
+
+use crate::alike::{ALIKE, BLANK};
 use crate::args::{Args, Command, Opt, TAB, WINDOWS, ZERO};
 use crate::cdb::{Record, Records, CDB};
+use crate::csv::{self, CSV};
+use crate::input::INCOMPLETE;
+use crate::json::{self, JSON};
 use crate::kind::Kind;
 use crate::lines::{self, Lines};
 use crate::making::{Making, ONE_WAY, RENAMED, REPEATS, SPARSE};
@@ -8,6 +14,7 @@ use crate::outcome::{self, Answer, Failure, Outcome};
 use crate::problem::{Problem, Skipped};
 use crate::progress::Progress;
 use crate::replace::{Target, FORCE};
+use crate::tsv::{self, TSV};
 
 const SKIP: Opt = Opt::plain("--skip", "pass over lines that cannot be put, tell them and count them");
 
@@ -20,7 +27,15 @@ Makes IMAGE from the lines of LIST, or of standard input: a decimal id up to
 4294967295, a space, and the name, which is the rest of the line. IMAGE may be -,
 standard output. A name that comes again is refused with 16; with --repeats it is
 put, and gives the id of its first line. An id that comes again stops it too; with
---renamed it gives the name of its last line.
+--renamed it gives the name of its last line. --csv, --json, --tsv and --cdb read
+what 'cqdb list' writes with the same option.
+
+A list that ends without its last line end may have been cut, so it is refused, as
+is a file that changes while it is read; --incomplete takes the first. A name that
+is empty or of spaces alone stops it, unless --blank is said. So does a name that
+looks like another, unless --alike is said: with a space at its beginning or end,
+two spaces together, a tab, a no-break space or something else that is not seen, or
+one that differs from an earlier name only in case or in spaces.
 
 A line of another form, or one whose put is refused, stops it: the message has
 the line's number, the reason and the refusal's number. With --skip such lines are
@@ -35,14 +50,17 @@ of one, and where something fails the old image stays. Owner, group and mode of
 the old image are kept. A file that is no single image is not replaced, nor an
 image that has entries by an empty one, unless --force is said.
 ",
-    options: &[CDB, FORCE, ONE_WAY, RENAMED, REPEATS, SKIP, SPARSE, TAB, WINDOWS, ZERO],
+    options: &[
+        ALIKE, BLANK, CDB, CSV, FORCE, INCOMPLETE, JSON, ONE_WAY, RENAMED, REPEATS, SKIP, SPARSE, TAB, TSV, WINDOWS,
+        ZERO,
+    ],
     operands: (1, 2),
     run,
 };
 
 fn run(args: Args) -> Outcome {
-    args.not_both(&[&CDB, &TAB])?;
-    args.not_both(&[&CDB, &ZERO])?;
+    args.not_both(&[&CDB, &CSV, &JSON, &TSV, &TAB])?;
+    args.not_both(&[&CDB, &CSV, &JSON, &TSV, &ZERO])?;
     args.not_both(&[&CDB, &WINDOWS])?;
     let target = Target::new(&args, 0, Kind::Image)?;
     let mut list = List::open(&args)?;
@@ -50,7 +68,7 @@ fn run(args: Args) -> Outcome {
     let mut skipped = Skipped::default();
     let mut progress = Progress::new();
     while let Some((number, put)) = list.read(&args)? {
-        let put = put.and_then(|(id, name)| making.put(number, id, name));
+        let put = put.and_then(|(id, name)| making.put(number, id, &name));
         progress.at(number, list.unit());
         if let Err(problem) = put {
             progress.clear();
@@ -77,40 +95,52 @@ fn run(args: Args) -> Outcome {
 
 /// What an image is made from.
 enum List {
-    Lines(Lines),
+    Lines(Lines, Layout),
     Records(Records),
 }
 
+/// The layout of a line.
+#[derive(Clone, Copy, PartialEq, Eq)]
+enum Layout {
+    Plain,
+    Csv,
+    Json,
+    Tsv,
+}
+
 /// An id and a name, or why there are none.
-type Put<'a> = Result<(u32, &'a [u8]), Problem>;
+type Put<'a> = Result<(u32, Cow<'a, [u8]>), Problem>;
 
 impl List {
     fn open(args: &Args) -> Result<List, Failure> {
-        match args.has(&CDB) {
-            true => Records::open(args.operand(1)).map(List::Records),
-            false => Lines::open(args.operand(1), args.end()).map(List::Lines),
+        if args.has(&CDB) {
+            return Records::open(args, args.operand(1)).map(List::Records);
         }
+        let layouts = [(&CSV, Layout::Csv), (&JSON, Layout::Json), (&TSV, Layout::Tsv)];
+        let layout = layouts.into_iter().find(|(option, _)| args.has(option));
+        let lines = Lines::of_list(args, args.operand(1), args.end())?;
+        Ok(List::Lines(lines, layout.map_or(Layout::Plain, |(_, layout)| layout)))
     }
 
     /// What is said of a problem with the put of this number.
     fn at(&self, number: u64, problem: &Problem) -> String {
         let name = match self {
-            List::Lines(lines) => &lines.name,
-            List::Records(records) => &records.name,
+            List::Lines(lines, _) => lines.name(),
+            List::Records(records) => records.name(),
         };
         format!("{name}, {} {number}: {problem}", self.unit_of_one())
     }
 
     fn unit_of_one(&self) -> &'static str {
         match self {
-            List::Lines(_) => "line",
+            List::Lines(..) => "line",
             List::Records(_) => "record",
         }
     }
 
     fn unit(&self) -> &'static str {
         match self {
-            List::Lines(_) => "lines",
+            List::Lines(..) => "lines",
             List::Records(_) => "records",
         }
     }
@@ -118,21 +148,66 @@ impl List {
     /// The next put with its number, counted from 1.
     fn read(&mut self, args: &Args) -> Result<Option<(u64, Put<'_>)>, Failure> {
         Ok(match self {
-            List::Lines(lines) => lines.read()?.map(|(number, line)| (number, of_line(args, number, line))),
+            List::Lines(lines, Layout::Csv) => row(lines)?.map(|(number, row)| (number, of_row(args, number, row))),
+            List::Lines(lines, layout) => {
+                let layout = *layout;
+                lines.read()?.map(|(number, line)| (number, of_line(args, layout, number, line)))
+            }
             List::Records(records) => records.read()?.map(|record| (record.number, of_record(&record))),
         })
     }
 }
 
-fn of_line<'a>(args: &Args, number: u64, line: &'a [u8]) -> Put<'a> {
+/// The next row of a table with commas: a line, and those behind it while a name goes on.
+fn row(lines: &mut Lines) -> Result<Option<(u64, &[u8])>, Failure> {
+    let Some((number, line)) = lines.read()? else { return Ok(None) };
+    let (mut open, mut length) = (csv::leaves_open(false, line), line.len());
+    while open {
+        match lines.read_on()? {
+            Some((_, row)) => (open, length) = (csv::leaves_open(open, &row[length..]), row.len()),
+            None => {
+                let what = "a quotation mark that no other follows, so the list may be cut";
+                return Err(Failure::new(format!("{}, line {number}: {what}", lines.name())));
+            }
+        }
+    }
+    Ok(Some((number, lines.last())))
+}
+
+fn of_row<'a>(args: &Args, number: u64, row: &'a [u8]) -> Put<'a> {
+    let row = lines::without_windows(args, number, row).map_err(Problem::OfWindows)?;
+    let form = "a decimal id up to 4294967295, a comma and a name as RFC 4180 quotes it";
+    let other = || Problem::Row { form, row: lines::shown(row) };
+    let (id, name) = csv::two_fields(row).ok_or_else(other)?;
+    Ok((lines::id_of(&id).ok_or_else(other)?, name.into()))
+}
+
+fn of_line<'a>(args: &Args, layout: Layout, number: u64, line: &'a [u8]) -> Put<'a> {
     let line = lines::without_windows(args, number, line).map_err(Problem::OfWindows)?;
+    match layout {
+        Layout::Json => {
+            let (id, name) =
+                json::id_and_name(line).map_err(|what| Problem::Object { what, line: lines::shown(line) })?;
+            Ok((id, name.into()))
+        }
+        Layout::Tsv => {
+            let form = "a decimal id up to 4294967295, a tab and a name with \\t \\n \\r \\\\ as 'cqdb list --tsv' writes them";
+            let other = || Problem::Row { form, row: lines::shown(line) };
+            let (id, name) = tsv::two_fields(line).ok_or_else(other)?;
+            Ok((lines::id_of(id).ok_or_else(other)?, name.into()))
+        }
+        _ => plain(args, line),
+    }
+}
+
+fn plain<'a>(args: &Args, line: &'a [u8]) -> Put<'a> {
     let other = || Problem::Form { between: if args.has(&TAB) { "tab" } else { "space" }, line: lines::shown(line) };
     let at = line.iter().position(|byte| *byte == args.between()).ok_or_else(other)?;
     let id = lines::id_of(&line[..at]).ok_or_else(other)?;
-    Ok((id, &line[at + 1..]))
+    Ok((id, line[at + 1..].into()))
 }
 
 fn of_record<'a>(record: &Record<'a>) -> Put<'a> {
     let id = lines::id_of(record.data).ok_or_else(|| Problem::Data(lines::shown(record.data)))?;
-    Ok((id, record.key))
+    Ok((id, record.key.into()))
 }

@@ -3,6 +3,7 @@ use std::collections::HashMap;
 
 use cqdb::{jhash, Flag, MemoryWriter, Refusal};
 
+use crate::alike::{self, Names, ALIKE, BLANK};
 use crate::args::{Args, Opt};
 use crate::files;
 use crate::lines;
@@ -33,6 +34,8 @@ pub struct Making {
     places: HashMap<u32, u32>,
     /// How many puts have each hash, where names may repeat.
     hashes: HashMap<u32, u32>,
+    /// The names, where none may look like another.
+    names: Option<Names>,
     /// The size of the image without its back array.
     size: u64,
     /// The largest id, and the line that put it first.
@@ -40,6 +43,7 @@ pub struct Making {
 }
 
 struct Options {
+    blank: bool,
     one_way: bool,
     renamed: bool,
     repeats: bool,
@@ -50,6 +54,7 @@ impl Making {
     /// `unit` is what the list consists of, lines or records.
     pub fn new(args: &Args, unit: &'static str) -> Making {
         let options = Options {
+            blank: args.has(&BLANK),
             one_way: args.has(&ONE_WAY),
             renamed: args.has(&RENAMED),
             repeats: args.has(&REPEATS),
@@ -64,6 +69,7 @@ impl Making {
             lines: Vec::new(),
             places: HashMap::new(),
             hashes: HashMap::new(),
+            names: (!args.has(&ALIKE)).then(Names::default),
             size: HEAD,
             largest: None,
         }
@@ -82,12 +88,14 @@ impl Making {
             }
             _ => {}
         }
+        let look = self.can_be_told(name)?;
         let size = self.size + name.len() as u64 + ENTRY;
         let largest = self.largest.filter(|(largest, _)| *largest >= id).unwrap_or((id, number));
         let back = self.back(largest.0);
         let room = self.lines.try_reserve(1).is_ok()
             && self.places.try_reserve(1).is_ok()
-            && self.hashes.try_reserve(1).is_ok();
+            && self.hashes.try_reserve(1).is_ok()
+            && self.names.as_mut().map_or(true, |names| names.reserve(name));
         let put = if room { self.writer.put(name, id) } else { Err(Refusal::NoRoom) };
         let whole = Size { bytes: size + back, largest: (back > 0).then_some(largest.0) };
         put.map_err(|refusal| match refusal {
@@ -101,9 +109,32 @@ impl Making {
         if self.options.repeats {
             *self.hashes.entry(jhash(name, 0).unwrap_or(0)).or_default() += 1;
         }
+        if let (Some(names), Some(look)) = (&mut self.names, look) {
+            names.push(look, name);
+        }
         self.lines.push(number);
         (self.size, self.largest) = (size, Some(largest));
         Ok(())
+    }
+
+    /// Can people tell the name from others? Gives the number of its look, where that is asked. A name with a zero byte is
+    /// left to the put, which refuses it.
+    fn can_be_told(&self, name: &[u8]) -> Result<Option<u64>, Problem> {
+        if name.contains(&0) {
+            return Ok(None);
+        }
+        let blank = alike::is_blank(name);
+        if blank && !self.options.blank {
+            return Err(Problem::Blank(lines::shown(name)));
+        }
+        let Some(names) = &self.names else { return Ok(None) };
+        if let Some(what) = alike::unseen(name).filter(|_| !blank) {
+            return Err(Problem::Unseen { name: lines::shown(name), what });
+        }
+        let look = names.number(name);
+        let Some(place) = names.place_alike(look, name) else { return Ok(Some(look)) };
+        let (name, other) = (lines::shown(name), lines::shown(names.name(place)));
+        Err(Problem::Alike { name, other, before: self.line(place) })
     }
 
     fn name_again(&self, name: &[u8]) -> Problem {

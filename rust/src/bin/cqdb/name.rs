@@ -1,11 +1,14 @@
 //! `cqdb name`: the names of ids.
 use cqdb::CQDB;
 
-use crate::answers::{Value, JSON, MISSING, QUIET, TSV};
+use crate::answers::{Value, MISSING, QUIET};
 use crate::args::{Args, Command, ALL, TAB, WINDOWS, ZERO};
+use crate::csv::CSV;
 use crate::files;
+use crate::json::JSON;
 use crate::outcome::{Failure, Outcome};
 use crate::questions::{self, Question, Said};
+use crate::tsv::TSV;
 
 pub const COMMAND: Command = Command {
     name: "name",
@@ -19,7 +22,7 @@ status is then 1. A word that is no id is told too; the others are answered, and
 the exit status is 2. BUNDLE:1 is the second image of a bundle; --all asks every
 image.
 ",
-    options: &[ALL, JSON, MISSING, QUIET, TAB, TSV, WINDOWS, ZERO],
+    options: &[ALL, CSV, JSON, MISSING, QUIET, TAB, TSV, WINDOWS, ZERO],
     operands: (1, usize::MAX),
     run,
 };

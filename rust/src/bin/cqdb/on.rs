@@ -1,11 +1,15 @@
 //! `cqdb on`: the names of ids on a date.
 use cqdb::CQDB;
 
-use crate::answers::{Value, JSON, MISSING, QUIET, TSV};
+use crate::answers::{Value, MISSING, QUIET};
 use crate::args::{Args, Command, ALL, TAB, WINDOWS, ZERO};
+use crate::csv::CSV;
 use crate::dates::{self, Windows};
+use crate::input::INCOMPLETE;
+use crate::json::JSON;
 use crate::outcome::{Failure, Outcome};
 use crate::questions::{self, Question, Said};
+use crate::tsv::TSV;
 
 pub const COMMAND: Command = Command {
     name: "on",
@@ -18,7 +22,7 @@ holds the date. WINDOWS has a line for each window: an id, its first date and th
 date from which on it stands no longer, a space between. Dates are of the years
 1900 to 2199; all windows are checked, also those of other ids.
 ",
-    options: &[ALL, JSON, MISSING, QUIET, TAB, TSV, WINDOWS, ZERO],
+    options: &[ALL, CSV, INCOMPLETE, JSON, MISSING, QUIET, TAB, TSV, WINDOWS, ZERO],
     operands: (3, usize::MAX),
     run,
 };

@@ -5,6 +5,7 @@ use cqdb::{references_first, Order, Pair};
 
 use crate::args::{Args, Command, WINDOWS};
 use crate::check;
+use crate::input::INCOMPLETE;
 use crate::lines::{self, Lines};
 use crate::outcome::{Failure, Outcome, Output};
 
@@ -19,7 +20,7 @@ they are sighted. A pair is kept where its wall prism is not sighted, or its
 reference is sighted before. The exit status is 1 where a pair is not kept; the
 first one is named.
 ",
-    options: &[WINDOWS],
+    options: &[INCOMPLETE, WINDOWS],
     operands: (2, 2),
     run,
 };
@@ -41,7 +42,7 @@ pub fn pairs(args: &Args, path: &Path) -> Result<Vec<Pair>, Failure> {
         Some(Pair { reference: lines::id_of(reference)?, wall: lines::id_of(wall)? })
     };
     let form = "the id of a reference, a space and the id of a wall prism";
-    Lines::open(Some(path.as_os_str()), b'\n')?.parsed(args, form, pair)
+    Lines::of_list(args, Some(path.as_os_str()), b'\n')?.parsed(args, form, pair)
 }
 
 /// Why a round does not keep every pair.

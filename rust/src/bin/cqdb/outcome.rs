@@ -1,7 +1,10 @@
 //! How a command ends, and what it prints.
-use std::io::{self, BufWriter, StdoutLock, Write};
+use std::io::{self, BufWriter, IsTerminal, Write};
 use std::mem::size_of;
 use std::process::ExitCode;
+
+use crate::letters;
+use crate::system::StandardOutput;
 
 /// The answer of a command that could be carried out.
 #[derive(Clone, Copy, PartialEq, Eq)]
@@ -23,15 +26,16 @@ impl From<bool> for Answer {
 
 /// Why a command could not be carried out.
 #[derive(Debug)]
-pub enum Failure {
-    Told(String),
-    /// Nobody reads the output any longer, as in `cqdb list IMAGE | head`.
-    ReaderGone,
-}
+pub struct Failure(String);
 
 impl Failure {
     pub fn new(what: impl Into<String>) -> Failure {
-        Failure::Told(what.into())
+        Failure(what.into())
+    }
+
+    /// The same, with more behind it.
+    pub fn and(self, more: &str) -> Failure {
+        Failure(self.0 + more)
     }
 }
 
@@ -40,9 +44,9 @@ pub type Outcome = Result<Answer, Failure>;
 /// The exit status of an outcome, after its message.
 pub fn exit(command: &str, outcome: Outcome) -> ExitCode {
     match outcome {
-        Ok(Answer::Yes) | Err(Failure::ReaderGone) => ExitCode::SUCCESS,
+        Ok(Answer::Yes) => ExitCode::SUCCESS,
         Ok(Answer::No) => ExitCode::from(1),
-        Err(Failure::Told(what)) => {
+        Err(Failure(what)) => {
             tell(&format!("{command}: {what}"));
             ExitCode::from(2)
         }
@@ -69,16 +73,6 @@ pub fn out_of_memory(what: &str, bytes: u64) -> Failure {
     Failure::new(format!("not enough memory for {what}: {bytes} bytes"))
 }
 
-/// Says what is about to be done, so that it is not done where this cannot be said. A reader who is gone does not
-/// matter.
-pub fn announce(text: &str) -> Result<(), Failure> {
-    let mut out = Output::new();
-    match out.bytes(text.as_bytes()).and_then(|()| out.flush()) {
-        Err(Failure::ReaderGone) => Ok(()),
-        written => written,
-    }
-}
-
 /// Prints a text and ends well.
 pub fn say(text: &str) -> Outcome {
     let mut out = Output::new();
@@ -86,16 +80,34 @@ pub fn say(text: &str) -> Outcome {
     out.finish(Answer::Yes)
 }
 
-/// Standard output, whose errors are failures.
-pub struct Output(BufWriter<StdoutLock<'static>>);
+/// Standard output, whose errors are failures. A reader who has gone, as `head` has after its last line, is none: the
+/// rest is not printed, and the command goes on to its answer, so that its status does not depend on who reads.
+pub struct Output {
+    to: BufWriter<StandardOutput>,
+    gone: bool,
+    terminal: bool,
+}
 
 impl Output {
     pub fn new() -> Output {
-        Output(BufWriter::with_capacity(1 << 16, io::stdout().lock()))
+        let to = BufWriter::with_capacity(1 << 16, StandardOutput);
+        Output { to, gone: false, terminal: io::stdout().is_terminal() }
     }
 
     pub fn bytes(&mut self, bytes: &[u8]) -> Result<(), Failure> {
-        self.0.write_all(bytes).map_err(failed)
+        if self.gone {
+            return Ok(());
+        }
+        let written = self.to.write_all(bytes);
+        self.printed(written)
+    }
+
+    /// A name, or another text that is not the tool's own. A terminal is shown the bytes that it would obey.
+    pub fn name(&mut self, name: &[u8]) -> Result<(), Failure> {
+        if self.terminal {
+            return letters::for_terminal(name, |part| self.bytes(part));
+        }
+        self.bytes(name)
     }
 
     /// The parts, and the byte that ends the line.
@@ -110,7 +122,11 @@ impl Output {
 
     /// Lets what was printed so far go out.
     pub fn flush(&mut self) -> Result<(), Failure> {
-        self.0.flush().map_err(failed)
+        if self.gone {
+            return Ok(());
+        }
+        let written = self.to.flush();
+        self.printed(written)
     }
 
     /// A line for people, behind what was printed so far.
@@ -125,11 +141,15 @@ impl Output {
         self.flush()?;
         Ok(answer.into())
     }
-}
 
-fn failed(error: io::Error) -> Failure {
-    match error.kind() {
-        io::ErrorKind::BrokenPipe => Failure::ReaderGone,
-        _ => Failure::new(format!("cannot write to standard output: {error}")),
+    fn printed(&mut self, written: io::Result<()>) -> Result<(), Failure> {
+        match written {
+            Err(error) if error.kind() == io::ErrorKind::BrokenPipe => {
+                self.gone = true;
+                Ok(())
+            }
+            Err(error) => Err(Failure::new(format!("cannot write to standard output: {error}"))),
+            Ok(()) => Ok(()),
+        }
     }
 }

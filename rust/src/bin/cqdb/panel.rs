@@ -1,10 +1,13 @@
 //! `cqdb panel`: names as a panel reads them.
 use cqdb::CQDB;
 
-use crate::answers::{Value, JSON, MISSING, QUIET, TSV};
+use crate::answers::{Value, MISSING, QUIET};
 use crate::args::{Args, Command, ALL, TAB, WINDOWS, ZERO};
+use crate::csv::CSV;
+use crate::json::JSON;
 use crate::outcome::{Failure, Outcome};
 use crate::questions::{self, Question, Said};
+use crate::tsv::TSV;
 
 pub const COMMAND: Command = Command {
     name: "panel",
@@ -15,7 +18,7 @@ Prints a line for each ID as 'cqdb name' does, with the name up to its first zer
 byte, as a panel that reads C strings shows it. An image of 'cqdb make' has no
 name with a zero byte; one that was made elsewhere may.
 ",
-    options: &[ALL, JSON, MISSING, QUIET, TAB, TSV, WINDOWS, ZERO],
+    options: &[ALL, CSV, JSON, MISSING, QUIET, TAB, TSV, WINDOWS, ZERO],
     operands: (1, usize::MAX),
     run,
 };

@@ -4,6 +4,7 @@ use std::fmt;
 
 use cqdb::Refusal;
 
+use crate::alike::{ALIKE, BLANK};
 use crate::files;
 use crate::lines::OfWindows;
 use crate::outcome;
@@ -12,6 +13,16 @@ use crate::outcome;
 pub enum Problem {
     Form {
         between: &'static str,
+        line: String,
+    },
+    /// What is wrong with a row or an object, and what it should be.
+    Row {
+        form: &'static str,
+        row: String,
+    },
+    /// What is wrong with an object of JSON.
+    Object {
+        what: &'static str,
         line: String,
     },
     /// The data of a record is no id.
@@ -25,6 +36,19 @@ pub enum Problem {
     /// The name was put before, by the line that is named.
     NameAgain {
         name: String,
+        before: String,
+    },
+    /// Nothing of the name is seen.
+    Blank(String),
+    /// Something of the name is not seen.
+    Unseen {
+        name: String,
+        what: String,
+    },
+    /// The name looks like another, which was put by the line that is named.
+    Alike {
+        name: String,
+        other: String,
         before: String,
     },
     NoRoom(Size),
@@ -47,7 +71,11 @@ impl Problem {
     /// One word or two for the summary.
     fn kind(&self) -> String {
         match self {
-            Problem::Form { .. } | Problem::Data(_) => "of another form".to_string(),
+            Problem::Form { .. } | Problem::Row { .. } | Problem::Object { .. } | Problem::Data(_) => {
+                "of another form".to_string()
+            }
+            Problem::Blank(_) => "with a blank name".to_string(),
+            Problem::Unseen { .. } | Problem::Alike { .. } => "with a name that looks like others".to_string(),
             Problem::OfWindows(OfWindows::CarriageReturn) => "with a carriage return".to_string(),
             Problem::OfWindows(_) => "with a byte order mark".to_string(),
             Problem::IdAgain { .. } => "with an id again".to_string(),
@@ -78,6 +106,8 @@ impl fmt::Display for Problem {
             Problem::Form { between, line } => {
                 write!(f, "not a decimal id up to 4294967295, a {between} and a name: {line}")
             }
+            Problem::Row { form, row } => write!(f, "not {form}: {row}"),
+            Problem::Object { what, line } => write!(f, "not an object with an id and a name, but {what}: {line}"),
             Problem::Data(data) => write!(f, "the data {data} is no decimal id up to 4294967295"),
             Problem::OfWindows(what) => what.fmt(f),
             Problem::IdAgain { id, before } => {
@@ -86,6 +116,14 @@ impl fmt::Display for Problem {
             Problem::NameAgain { name, before } => {
                 let refusal = files::refusal_in_words(Refusal::Repeated);
                 write!(f, "{refusal}: {name} is in {before}; --repeats takes it")
+            }
+            Problem::Blank(name) => write!(f, "the name {name} is blank: {} takes it", BLANK.long),
+            Problem::Unseen { name, what } => {
+                write!(f, "the name {name} has {what}, so it looks like another: {} takes it", ALIKE.long)
+            }
+            Problem::Alike { name, other, before } => {
+                let option = ALIKE.long;
+                write!(f, "the name {name} looks like {other} of {before}: {option} takes it")
             }
             Problem::NoRoom(size) => write!(f, "{}: {size}", files::refusal_in_words(Refusal::NoRoom)),
             Problem::NoMemory(size) => write!(f, "not enough memory for an image of {size}"),

@@ -151,7 +151,7 @@ pub fn rounds(args: &Args, from: usize, mut ask: impl FnMut(&[&[u8]]) -> Result<
         return words.chunks(ROUND).try_for_each(ask);
     }
     let most = if io::stdin().is_terminal() { 1 } else { ROUND };
-    let mut lines = Lines::open(None, args.end())?;
+    let mut lines = Lines::of_questions(args.end())?;
     loop {
         let (mut round, mut bytes) = (Vec::new(), 0);
         while round.len() < most && bytes < BYTES {

@@ -213,7 +213,7 @@ fn wait_for_lock(old: &Old) -> Result<(), Failure> {
     Ok(())
 }
 
-/// Writes a file beside its place, says the message and moves the file there; where that fails the old file stays.
+/// Writes a file beside its place, moves it there and says the message; where one of that fails the old file stays.
 /// False where no old file was there, and now there is one.
 fn put_in_place(
     shown: &Path,
@@ -224,27 +224,40 @@ fn put_in_place(
 ) -> Result<bool, Failure> {
     let mut new = New::beside(place).map_err(|error| cannot_write(shown, error))?;
     let filled = new.fill(bytes, old).map_err(|error| cannot_write(shown, error));
-    let kept = filled.and_then(|kept| outcome::announce(message).map(|()| kept));
-    let moved = kept.and_then(|kept| match new.move_to(place, old.is_some()) {
+    let moved = filled.and_then(|lost| match new.move_to(place, old.is_some()) {
         Err(error) if old.is_none() && error.kind() == io::ErrorKind::AlreadyExists => Ok(None),
         Err(error) => Err(cannot_write(shown, error)),
-        Ok(()) => Ok(Some(kept)),
+        Ok(moved) => Ok(Some((lost, moved))),
     });
-    let kept = match moved {
-        Ok(Some(kept)) => kept,
+    let (lost, moved) = match moved {
+        Ok(Some(both)) => both,
         Ok(None) => return new.remove().map(|()| false),
         Err(failure) => return new.remove().and(Err(failure)),
     };
-    if let Some(lost) = kept {
-        outcome::tell(&format!("{} is written; {lost}", shown.display()));
-    }
     // The move itself is on the disk once the folder is.
-    if let Err(error) = File::open(folder(place)).and_then(|folder| folder.sync_all()) {
-        let why = format!("its folder could not be synced ({error}), so a failure of the machine may undo it");
-        outcome::tell(&format!("{} is written; {why}", shown.display()));
+    let synced = sync_folder(place);
+    if let Err(failure) = say(message) {
+        return Err(new.take_back(shown, place, moved, failure));
+    }
+    if moved == Moved::Exchanged {
+        new.remove()?;
+    }
+    let undone = |error| format!("its folder could not be synced ({error}), so a failure of the machine may undo it");
+    for what in lost.into_iter().chain(synced.err().map(undone)) {
+        outcome::tell(&format!("{} is written; {what}", shown.display()));
     }
     tell_leftovers(place);
     Ok(true)
+}
+
+fn say(message: &str) -> Result<(), Failure> {
+    let mut out = Output::new();
+    out.bytes(message.as_bytes())?;
+    out.flush()
+}
+
+fn sync_folder(place: &Path) -> io::Result<()> {
+    File::open(folder(place))?.sync_all()
 }
 
 fn folder(place: &Path) -> &Path {
@@ -256,6 +269,14 @@ struct New {
     path: PathBuf,
     file: File,
     _removed: RemovedAtSignal,
+}
+
+/// How a new file came to its place: where none was; for the old one, which is beside now; or over that one.
+#[derive(Clone, Copy, PartialEq, Eq)]
+enum Moved {
+    ToFree,
+    Exchanged,
+    Over,
 }
 
 const ENDING: &str = ".new";
@@ -295,12 +316,27 @@ impl New {
         Ok(lost)
     }
 
-    fn move_to(&self, place: &Path, replacing: bool) -> io::Result<()> {
-        if replacing {
-            fs::rename(&self.path, place)
-        } else {
-            system::rename_to_free(&self.path, place)
+    fn move_to(&self, place: &Path, replacing: bool) -> io::Result<Moved> {
+        if !replacing {
+            return system::rename_to_free(&self.path, place).map(|()| Moved::ToFree);
         }
+        if system::exchange(&self.path, place)? {
+            return Ok(Moved::Exchanged);
+        }
+        fs::rename(&self.path, place).map(|()| Moved::Over)
+    }
+
+    /// Undoes the move, so that file and status agree, and gives the failure that was the reason.
+    fn take_back(self, shown: &Path, place: &Path, moved: Moved, why: Failure) -> Failure {
+        let back = match moved {
+            Moved::ToFree => fs::remove_file(place).is_ok(),
+            Moved::Exchanged => system::exchange(&self.path, place).unwrap_or(false) && self.remove().is_ok(),
+            Moved::Over => false,
+        };
+        if back && sync_folder(place).is_ok() {
+            return why;
+        }
+        why.and(&format!("; the new {} is written, and may be there", shown.display()))
     }
 
     fn remove(self) -> Result<(), Failure> {

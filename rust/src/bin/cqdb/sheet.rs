@@ -5,6 +5,7 @@ use cqdb::Sheet;
 
 use crate::args::{Args, Command, WINDOWS};
 use crate::files::{self, Bytes};
+use crate::input::INCOMPLETE;
 use crate::kind::Kind;
 use crate::lines::{self, Lines};
 use crate::outcome::{self, Answer, Failure, Outcome, Output};
@@ -21,7 +22,7 @@ of such lines, from LIST or standard input. They may come in any order; within
 each of the three kinds their order is kept. A file that is no round sheet is not
 replaced, nor one that has ids by an empty one, unless --force is said.
 ",
-    options: &[FORCE, WINDOWS],
+    options: &[FORCE, INCOMPLETE, WINDOWS],
     operands: (2, 3),
     run,
 };
@@ -56,7 +57,7 @@ fn show(path: &Path) -> Outcome {
 
 fn make(args: &Args) -> Outcome {
     let target = Target::new(args, 1, Kind::Sheet)?;
-    let list = Lines::open(args.operand(2), b'\n')?;
+    let list = Lines::of_list(args, args.operand(2), b'\n')?;
     let list = list.parsed(args, "reference, wall or retired, a space and an id", kind_and_id)?;
     let mut ids: [Vec<u32>; 3] = Default::default();
     for (kind, id) in &list {

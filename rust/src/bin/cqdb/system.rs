@@ -2,14 +2,14 @@
 //! are declared here by hand, each behind a safe function; no other file of the tool has a word `unsafe`.
 use std::ffi::{c_char, c_int, c_void, CString};
 use std::fs::File;
-use std::io;
+use std::io::{self, Write};
 use std::ops::Deref;
 use std::os::fd::AsRawFd;
 use std::os::unix::ffi::OsStrExt;
 use std::path::Path;
 use std::ptr::{null, null_mut};
 use std::slice;
-use std::sync::atomic::{AtomicPtr, Ordering};
+use std::sync::atomic::{AtomicBool, AtomicPtr, Ordering};
 
 /// C's `struct sigaction` of x86-64 Linux.
 #[repr(C)]
@@ -23,6 +23,7 @@ struct Action {
 extern "C" {
     fn mmap(at: *mut c_void, length: usize, protection: c_int, flags: c_int, file: c_int, offset: i64) -> *mut c_void;
     fn munmap(at: *mut c_void, length: usize) -> c_int;
+    fn fcntl(file: c_int, command: c_int, ...) -> c_int;
     fn flock(file: c_int, operation: c_int) -> c_int;
     fn sigaction(signal: c_int, action: *const Action, before: *mut Action) -> c_int;
     fn raise(signal: c_int) -> c_int;
@@ -40,6 +41,49 @@ const SIGXFSZ: c_int = 25;
 const SIG_IGN: usize = 1;
 /// The default action is back before the handler runs, and the signal is not held back while it runs.
 const ONCE: c_int = 0x8000_0000_u32 as c_int | 0x4000_0000;
+
+/// Whether standard input and output were open when the process began. Rust opens /dev/null in the place of a closed
+/// one before `main`, and what is written there would be taken for said.
+static OPEN: [AtomicBool; 2] = [AtomicBool::new(true), AtomicBool::new(true)];
+
+/// Runs before Rust's own beginning, as C's constructors do.
+#[used]
+#[link_section = ".init_array"]
+static AT_BEGINNING: extern "C" fn() = {
+    extern "C" fn look() {
+        const F_GETFD: c_int = 1;
+        for (number, open) in OPEN.iter().enumerate() {
+            // SAFETY: the call asks for the flags of a file's number, which may be closed.
+            open.store(unsafe { fcntl(number as c_int, F_GETFD) } != -1, Ordering::Relaxed);
+        }
+    }
+    look
+};
+
+/// Was standard input open when the process began?
+pub fn standard_input_is_open() -> bool {
+    OPEN[0].load(Ordering::Relaxed)
+}
+
+/// Was standard output open when the process began?
+pub fn standard_output_is_open() -> bool {
+    OPEN[1].load(Ordering::Relaxed)
+}
+
+/// Standard output without a buffer. Rust's own takes one that cannot be written to for one that was.
+pub struct StandardOutput;
+
+impl Write for StandardOutput {
+    fn write(&mut self, bytes: &[u8]) -> io::Result<usize> {
+        // SAFETY: so many bytes are there.
+        let written = unsafe { write(1, bytes.as_ptr().cast(), bytes.len()) };
+        usize::try_from(written).map_err(|_| io::Error::last_os_error())
+    }
+
+    fn flush(&mut self) -> io::Result<()> {
+        Ok(())
+    }
+}
 
 /// The bytes of a file. A page of it is read from the disk when it is first asked for.
 pub struct Map {
@@ -102,19 +146,35 @@ pub fn lock(file: &File, wait: bool) -> io::Result<bool> {
 
 /// Moves a file to a place where none is. Where one is there, the error is `AlreadyExists`.
 pub fn rename_to_free(from: &Path, to: &Path) -> io::Result<()> {
-    const AT_FDCWD: c_int = -100;
     const RENAME_NOREPLACE: u32 = 1;
+    match rename(from, to, RENAME_NOREPLACE) {
+        Err(error) if lacks_the_flag(&error) && !to.exists() => std::fs::rename(from, to),
+        renamed => renamed,
+    }
+}
+
+/// Exchanges two files, so that both are there afterwards. False where this file system or Linux cannot.
+pub fn exchange(one: &Path, other: &Path) -> io::Result<bool> {
+    const RENAME_EXCHANGE: u32 = 2;
+    match rename(one, other, RENAME_EXCHANGE) {
+        Err(error) if lacks_the_flag(&error) => Ok(false),
+        renamed => renamed.map(|()| true),
+    }
+}
+
+fn rename(from: &Path, to: &Path, flags: u32) -> io::Result<()> {
+    const AT_FDCWD: c_int = -100;
     let (old, new) = (CString::new(from.as_os_str().as_bytes())?, CString::new(to.as_os_str().as_bytes())?);
     // SAFETY: both are texts that end with a zero byte.
-    if unsafe { renameat2(AT_FDCWD, old.as_ptr(), AT_FDCWD, new.as_ptr(), RENAME_NOREPLACE) } == 0 {
-        return Ok(());
+    match unsafe { renameat2(AT_FDCWD, old.as_ptr(), AT_FDCWD, new.as_ptr(), flags) } {
+        0 => Ok(()),
+        _ => Err(io::Error::last_os_error()),
     }
-    let error = io::Error::last_os_error();
-    match error.raw_os_error() {
-        // EINVAL, ENOSYS: this file system or Linux does not have the flag.
-        Some(22 | 38) if !to.exists() => std::fs::rename(from, to),
-        _ => Err(error),
-    }
+}
+
+/// EINVAL, ENOSYS: this file system or Linux does not have the flag.
+fn lacks_the_flag(error: &io::Error) -> bool {
+    matches!(error.raw_os_error(), Some(22 | 38))
 }
 
 fn on_signal(signal: c_int, handler: usize, flags: c_int) {

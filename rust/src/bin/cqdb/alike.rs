@@ -1,0 +1,119 @@
+//! Names that people could take for one another. Two such names under two ids are a swap that waits to be typed.
+use std::collections::hash_map::RandomState;
+use std::collections::HashMap;
+use std::hash::{BuildHasher, Hasher};
+
+use crate::args::Opt;
+use crate::letters::{self, Letter};
+
+pub const ALIKE: Opt =
+    Opt::plain("--alike", "take names that look like others: in case, in spaces, in what is not seen");
+pub const BLANK: Opt = Opt::plain("--blank", "take names that are empty, or of spaces alone");
+
+/// Is nothing of the name seen?
+pub fn is_blank(name: &[u8]) -> bool {
+    letters::of(name).all(|letter| !is_seen(text_of(letter)))
+}
+
+/// What of a name is not seen, in words: spaces at its ends or together, and white space or controls other than a space.
+pub fn unseen(name: &[u8]) -> Option<String> {
+    let mut before = ' ';
+    for letter in letters::of(name).map(text_of) {
+        match (before, letter) {
+            (' ', ' ') if name.starts_with(b" ") => return Some("a space at its beginning".to_string()),
+            (' ', ' ') => return Some("two spaces together".to_string()),
+            (_, ' ') => {}
+            (_, letter) if !is_seen(letter) => return Some(unseen_letter(letter)),
+            _ => {}
+        }
+        before = letter;
+    }
+    (before == ' ' && !name.is_empty()).then(|| "a space at its end".to_string())
+}
+
+fn unseen_letter(letter: char) -> String {
+    match letter {
+        '\t' => "a tab".to_string(),
+        '\n' => "a line feed".to_string(),
+        '\r' => "a carriage return".to_string(),
+        '\u{a0}' => "a no-break space".to_string(),
+        letter => format!("a letter that is not seen, U+{:04X}", letter as u32),
+    }
+}
+
+/// A byte that is no UTF-8 is taken for a letter of Latin-1, as in lists of older programs.
+fn text_of(letter: Letter) -> char {
+    match letter {
+        Letter::Text(letter) => letter,
+        // In Windows' form of Latin-1 these are letters, and no controls.
+        Letter::Byte(byte @ 0x80..=0x9f) => char::from_u32(0xf700 + u32::from(byte)).unwrap_or('?'),
+        Letter::Byte(byte) => char::from(byte),
+    }
+}
+
+/// White space, controls, and letters of no width are not seen.
+fn is_seen(letter: char) -> bool {
+    if letter.is_ascii() {
+        return letter.is_ascii_graphic();
+    }
+    let no_width =
+        matches!(letter, '\u{ad}' | '\u{180e}' | '\u{200b}'..='\u{200f}' | '\u{2060}'..='\u{2064}' | '\u{feff}');
+    !(letter.is_whitespace() || no_width || letters::is_obeyed(letter))
+}
+
+/// What names that look alike have in common: the letters that are seen, in lower case.
+fn folded(name: &[u8]) -> impl Iterator<Item = char> + '_ {
+    letters::of(name).map(text_of).filter(|letter| is_seen(*letter)).flat_map(char::to_lowercase)
+}
+
+/// The names that were put, each with its place among the puts.
+#[derive(Default)]
+pub struct Names {
+    /// The names, back to back, and where each ends.
+    bytes: Vec<u8>,
+    ends: Vec<usize>,
+    /// The place of the first name of each look, by a number for the look: its hash, or the next one that is free.
+    places: HashMap<u64, u32>,
+    hashes: RandomState,
+}
+
+impl Names {
+    /// Room for one more name. False where memory cannot be had.
+    pub fn reserve(&mut self, name: &[u8]) -> bool {
+        self.bytes.try_reserve(name.len()).is_ok()
+            && self.ends.try_reserve(1).is_ok()
+            && self.places.try_reserve(1).is_ok()
+    }
+
+    /// The place of the first name with the look of this number, where it is another name than this one.
+    pub fn place_alike(&self, number: u64, name: &[u8]) -> Option<u32> {
+        let place = *self.places.get(&number)?;
+        (self.name(place) != name).then_some(place)
+    }
+
+    /// Adds a name with the number of its look, behind the others.
+    pub fn push(&mut self, number: u64, name: &[u8]) {
+        let place = self.ends.len() as u32;
+        self.places.entry(number).or_insert(place);
+        self.bytes.extend_from_slice(name);
+        self.ends.push(self.bytes.len());
+    }
+
+    /// The name at a place.
+    pub fn name(&self, place: u32) -> &[u8] {
+        let place = place as usize;
+        let start = place.checked_sub(1).map_or(0, |before| self.ends[before]);
+        &self.bytes[start..self.ends[place]]
+    }
+
+    /// The number of the name's look: that of the name that is there and looks like it, or else one that is free.
+    pub fn number(&self, name: &[u8]) -> u64 {
+        let mut hasher = self.hashes.build_hasher();
+        folded(name).for_each(|letter| hasher.write_u32(letter as u32));
+        let mut number = hasher.finish();
+        while self.places.get(&number).is_some_and(|place| !folded(self.name(*place)).eq(folded(name))) {
+            number = number.wrapping_add(1);
+        }
+        number
+    }
+}
