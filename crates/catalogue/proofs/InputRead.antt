@@ -8,8 +8,8 @@ use Rattle.writer.specs.State.{State}
 use Rattle.reader.specs.Naming.{Naming, place, unnamed, naming}
 use Rattle.reader.specs.IdWalk.{item, done, stepOf, step}
 use Rattle.reader.proofs.Namings.{named}
-use Rattle.lines.specs.steps.Pieces.{Gathering, started, takePiece, inputEnded}
-use Rattle.lines.proofs.WholeInput.{piece-append, in-one}
+use Rattle.catalogue.specs.steps.Pieces.{Gathering, started, takePiece, inputEnded}
+use Rattle.catalogue.proofs.WholeInput.{piece-append, in-one}
 use Rattle.catalogue.specs.Left.{Left}
 
 -- the bytes that were taken on the way from g to h

@@ -17,7 +17,7 @@ use Rattle.writer.specs.declared.Repeats.the-variants.{Off}
 use Rattle.writer.specs.Put.{entryOf}
 use Rattle.lists.specs.Calls.{Call, putDue, acceptedFrom, accepted, putsSize, sizeOf}
 use Rattle.lists.proofs.Theorem.{one-list}
-use Rattle.lines.specs.Lines.{withByte, linesOf, leadingDigits, numberFrom, parseLine, lineCalls, linesCalls, inputCalls}
+use Rattle.catalogue.specs.Lines.{withByte, linesOf, leadingDigits, numberFrom, parseLine, lineCalls, linesCalls, inputCalls}
 use Rattle.catalogue.specs.Left.{putsOf}
 use Rattle.catalogue.specs.theorems.Printed.{itemBy, items, namedBy, itemsOf, example, repeatedLines, Demonstration}
 

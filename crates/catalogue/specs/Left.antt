@@ -9,7 +9,7 @@ use Rattle.image.specs.Image.{Entry, image}
 use Rattle.writer.specs.declared.Repeats.the-variants.{Off}
 use Rattle.writer.specs.State.{State}
 use Rattle.lists.specs.Calls.{accepted, sizeOf}
-use Rattle.lines.specs.Lines.{inputCalls, afterInput}
+use Rattle.catalogue.specs.Lines.{inputCalls, afterInput}
 
 -- the puts of an input that are accepted two-way in a buffer of n bytes, in their order; the demonstration program
 -- begins without the repeats mode (02 (viii)), so a line with a name that was put before is skipped

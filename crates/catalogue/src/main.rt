@@ -8,11 +8,27 @@ ghost use Rattle.catalogue.specs.Left.{Left, Built};
 use image::Mode;
 use libc::STDIN_FILENO;
 use libc::STDOUT_FILENO;
-use lines::Intake;
+use pieces::end_input;
+use pieces::take_piece;
 use reader::Stepped;
 use writer::CQDBWriter;
 use writer::Closed;
 use writer::Repeats;
+
+mod parsing; // parsing.rt: a line, an id and a name
+mod pieces; // pieces.rt: lines put one after the other, of an input that comes in pieces
+
+// What a line is: an id, and where its name begins; or something of another form.
+pub enum Line {
+    Entry { id: u32, name: usize },
+    Other,
+}
+
+// What is kept between the pieces of an input: the writer record, and how many bytes of the line at hand have come.
+pub struct Intake {
+    pub writer: CQDBWriter,
+    pub have: usize,
+}
 
 // Puts the lines of standard input, read piece by piece. A proved loop has to end, and nothing says that an input
 // does: it counts its turns down from a number that no run uses up.
@@ -36,10 +52,10 @@ fn put_input(
         if n == 0 {
             break;
         }
-        t = lines::take_piece(t, &mut *counts, &mut *buf, &mut *room, &piece[..n]);
+        t = take_piece(t, &mut *counts, &mut *buf, &mut *room, &piece[..n]);
         turns -= 1;
     }
-    lines::end_input(t, counts, buf, &*room)
+    end_input(t, counts, buf, &*room)
 }
 
 // What is printed first: the number of entries, and the size of the image, which is the buffer's first bytes.

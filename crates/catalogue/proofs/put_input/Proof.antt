@@ -7,7 +7,7 @@ use mathlib.Core.Logic.{⊎-elim}
 use lib.ListN.{length}
 use borrow.Author.Needs.{needs}
 use Rattle.writer.specs.State.{stateWith}
-use Rattle.lines.specs.steps.Pieces.{Gathering, gathering}
+use Rattle.catalogue.specs.steps.Pieces.{Gathering, gathering}
 use Rattle.catalogue.proofs.InputRead.{Taken, none-taken, more-taken, taken-left}
 use Rattle.catalogue.proofs.put_input.Statement.{statement}
 use Rattle.catalogue.proofs.put_input.Tie as tie
