@@ -17,7 +17,7 @@ pub fn build(names: &[&str], buf: &mut [u8]) {
     let mut counts = [0; 256];
     let mut record = archive::begin(0, 1, &mut counts, buf).record;
     for (id, name) in names.iter().enumerate() {
-        record = archive::put(record, &mut counts, buf, name.as_bytes(), id as u32).record;
+        archive::put_in(&mut record, &mut counts, buf, name.as_bytes(), id as u32);
     }
     let closed = archive::close(record, &counts, buf);
     assert_eq!((closed.refusal, closed.size as usize), (0, buf.len()));

@@ -8,7 +8,7 @@ use std::time::Instant;
 fn puts(list: &List, repeats: u32, counts: &mut Counts, buf: &mut [u8]) -> Record {
     let mut record = archive::begin(0, repeats, counts, buf).record;
     for (name, id) in list.each() {
-        record = archive::put(record, counts, buf, name, id).record;
+        archive::put_in(&mut record, counts, buf, name, id);
     }
     assert_eq!(record.entries as usize, list.n);
     record

@@ -83,9 +83,9 @@
    cqdb_open may still accept it: names and ids may then give nothing, or each other's answers. See cqdb_put.
 
    What is proved is the archive. The declarations, structs and inline functions of this file are tested. The inline functions
-   only copy numbers, pass arguments on (rounds: four words for each place; build: one number for both lists; begin and
-   put_indexed: the writer's numbers in place; preflight: the fields of a report, three words for each window) or take a C string's
-   length; and cqdb_refusal_text gives a number's text. */
+   only pass arguments on (rounds: four words for each place; build: one number for both lists; the calls of a writer: its numbers in
+   place; preflight: the fields of a report, three words for each window) or take a C string's length; and cqdb_refusal_text gives a
+   number's text. */
 #ifndef CQDB_H
 #define CQDB_H
 
@@ -360,38 +360,8 @@ typedef char cqdb_writer_in_place[offsetof(cqdb_writer, back) == 12 && offsetof(
                                   offsetof(cqdb_writer, end) == 24 ? 1 : -1];
 
 /* The archive exports cqdb_begin_parts, cqdb_put_parts, cqdb_close_parts and cqdb_grown_parts; cqdb_begin, cqdb_put,
-   cqdb_close and cqdb_grown below call them, and programs in other languages may. They take the writer in parts. The counts
-   are lent. Begin takes the record in place: the words mode, repeats, entries and back, and the sizes length and end. The
-   others take it by value, as a cqdb_record. */
-typedef struct {
-    uint32_t mode;
-    uint32_t repeats;
-    uint32_t entries;
-    uint32_t back;
-    uint64_t length;
-    uint64_t end;
-} cqdb_record;
-
-/* The record to go on with; where refused, the one that was given. */
-typedef struct {
-    uint32_t refusal;
-    cqdb_record record;
-} cqdb_put_answer;
-
-/* size is 0 where refused; the record is always the one that was given. */
-typedef struct {
-    uint32_t refusal;
-    uint32_t size;
-    cqdb_record record;
-} cqdb_close_parts_answer;
-
-CQDB_LENGTH_ALONE(6)
-uint32_t cqdb_begin_parts(uint32_t mode, uint32_t repeats, uint32_t *numbers, uint64_t *sizes, uint32_t *counts,
-                          const uint8_t *buf, size_t len);
-cqdb_put_answer cqdb_put_parts(cqdb_record record, uint32_t *counts, uint8_t *buf, size_t len,
-                               const uint8_t *name, size_t name_len, uint32_t id);
-cqdb_close_parts_answer cqdb_close_parts(cqdb_record record, const uint32_t *counts, uint8_t *buf, size_t len);
-cqdb_put_answer cqdb_grown_parts(cqdb_record record, uint64_t len);
+   cqdb_close and cqdb_grown below call them, and programs in other languages may. They take the writer in parts, in place:
+   the words mode, repeats, entries and back, the sizes length and end, and the counts. */
 
 /* refusal is 0 when the call was accepted; size is the image's, 0 when the call was refused. */
 typedef struct {
@@ -399,19 +369,14 @@ typedef struct {
     uint32_t size;
 } cqdb_close_answer;
 
-static inline cqdb_record cqdb_record_of(const cqdb_writer *w) {
-    cqdb_record r = {w->mode, w->repeats, w->entries, w->back, w->length, w->end};
-    return r;
-}
-
-static inline void cqdb_keep(cqdb_writer *w, cqdb_record r) {
-    w->mode = r.mode;
-    w->repeats = r.repeats;
-    w->entries = r.entries;
-    w->back = r.back;
-    w->length = r.length;
-    w->end = r.end;
-}
+CQDB_LENGTH_ALONE(6)
+uint32_t cqdb_begin_parts(uint32_t mode, uint32_t repeats, uint32_t *numbers, uint64_t *sizes, uint32_t *counts,
+                          const uint8_t *buf, size_t len);
+uint32_t cqdb_put_parts(uint32_t *numbers, uint64_t *sizes, uint32_t *counts, uint8_t *buf, size_t len,
+                        const uint8_t *name, size_t name_len, uint32_t id);
+cqdb_close_answer cqdb_close_parts(const uint32_t *numbers, const uint64_t *sizes, const uint32_t *counts, uint8_t *buf,
+                                   size_t len);
+uint32_t cqdb_grown_parts(const uint32_t *numbers, uint64_t *sizes, uint64_t len);
 
 /* Begins with the choice that `repeats` names: what cqdb_begin and cqdb_begin_repeats do. */
 CQDB_LENGTH_ALONE(4) CQDB_INLINED
@@ -451,9 +416,7 @@ static inline uint32_t cqdb_begin_repeats(cqdb_writer *w, uint32_t mode, const u
    open gives num 2 and A finds nothing. Two puts whose ids and lengths look like offsets can make id 0 give B and id 1 give
    A. The next cqdb_close makes all of it right again: read after that close, or read a copy. */
 static inline uint32_t cqdb_put(cqdb_writer *w, uint8_t *buf, size_t len, const uint8_t *name, size_t name_len, uint32_t id) {
-    cqdb_put_answer a = cqdb_put_parts(cqdb_record_of(w), w->counts, buf, len, name, name_len, id);
-    cqdb_keep(w, a.record);
-    return a.refusal;
+    return cqdb_put_parts(&w->mode, &w->length, w->counts, buf, len, name, name_len, id);
 }
 
 /* The same of a name that is a C string. */
@@ -466,9 +429,7 @@ static inline uint32_t cqdb_put_text(cqdb_writer *w, uint8_t *buf, size_t len, c
    begun with the larger buffer and been given the accepted puts. Gives 0, or 2, and the writer stays as it was, when the buffer
    has become shorter, or for a mode or a repeats that is neither 0 nor 1. */
 static inline uint32_t cqdb_grown(cqdb_writer *w, size_t len) {
-    cqdb_put_answer a = cqdb_grown_parts(cqdb_record_of(w), len);
-    cqdb_keep(w, a.record);
-    return a.refusal;
+    return cqdb_grown_parts(&w->mode, &w->length, len);
 }
 
 /* Writes head, tables and back array: the buffer's first `size` bytes are then the image, up to the next accepted put.
@@ -477,9 +438,7 @@ static inline uint32_t cqdb_grown(cqdb_writer *w, size_t len) {
    writer's number of whole entries with its counts and back size, or when the finished size exceeds the buffer or
    4,294,967,295. */
 static inline cqdb_close_answer cqdb_close(const cqdb_writer *w, uint8_t *buf, size_t len) {
-    cqdb_close_parts_answer a = cqdb_close_parts(cqdb_record_of(w), w->counts, buf, len);
-    cqdb_close_answer c = {a.refusal, a.size};
-    return c;
+    return cqdb_close_parts(&w->mode, &w->length, w->counts, buf, len);
 }
 
 /* Single puts in constant time, also with repeats off: by an index, in words that the caller lends. A put by the index compares
@@ -497,9 +456,10 @@ static inline cqdb_close_answer cqdb_close(const cqdb_writer *w, uint8_t *buf, s
    takes: with 2 words for each name, seven times as long at 100,000. */
 size_t cqdb_index_words(size_t names);
 
-/* The archive exports cqdb_index_parts and cqdb_put_indexed_parts, which cqdb_index and cqdb_put_indexed call. The second takes the
-   record in place, as cqdb_begin_parts does. */
-uint32_t cqdb_index_parts(cqdb_record record, const uint32_t *counts, const uint8_t *buf, size_t len, uint32_t *slots, size_t n);
+/* The archive exports cqdb_index_parts and cqdb_put_indexed_parts, which cqdb_index and cqdb_put_indexed call. They take the writer in
+   parts, in place, as cqdb_begin_parts does. */
+uint32_t cqdb_index_parts(const uint32_t *numbers, const uint64_t *sizes, const uint32_t *counts, const uint8_t *buf, size_t len,
+                          uint32_t *slots, size_t n);
 uint32_t cqdb_put_indexed_parts(uint32_t *numbers, uint64_t *sizes, uint32_t *counts, uint8_t *buf, size_t len,
                                 uint32_t *slots, size_t n, const uint8_t *name, size_t name_len, uint32_t id);
 
@@ -508,7 +468,7 @@ uint32_t cqdb_put_indexed_parts(uint32_t *numbers, uint64_t *sizes, uint32_t *co
    them, 24 when there are more entries than n / 2. Call it again with more words before the index is full. It walks the entries
    twice: an index that grows by a factor when it is half full costs each put a constant time more. */
 static inline uint32_t cqdb_index(const cqdb_writer *w, const uint8_t *buf, size_t len, uint32_t *slots, size_t n) {
-    return cqdb_index_parts(cqdb_record_of(w), w->counts, buf, len, slots, n);
+    return cqdb_index_parts(&w->mode, &w->length, w->counts, buf, len, slots, n);
 }
 
 /* By a right index: cqdb_put with the writer's own choice of repeats, and the index is right again. Gives 0, or put's refusals in

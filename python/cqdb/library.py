@@ -9,7 +9,7 @@ from typing import Any, List, Tuple
 
 from cqdb.version import __version__
 
-FILE = "libcqdb.so.0"
+FILE = "libcqdb.so.1"
 VERSION = tuple(map(int, __version__.split(".")[:2]))
 """Major and minor of the version whose structs and functions stand below."""
 
@@ -55,14 +55,8 @@ class Record(Structure):
     ]
 
 
-class RecordAnswer(Structure):
-    """What grown answers."""
-
-    _fields_ = [("refusal", c_uint32), ("record", Record)]
-
-
 class CloseAnswer(Structure):
-    _fields_ = [("refusal", c_uint32), ("size", c_uint32), ("record", Record)]
+    _fields_ = [("refusal", c_uint32), ("size", c_uint32)]
 
 
 class BuildAnswer(Structure):
@@ -124,10 +118,10 @@ _FUNCTIONS: List[Tuple[str, Any, List[Any]]] = [
     ("cqdb_name_round_words", c_uint32, _LENT * 3),
     ("cqdb_begin_parts", c_uint32, [c_uint32, c_uint32, c_void_p, c_void_p, c_void_p] + _LENT),
     ("cqdb_index_words", c_size_t, [c_size_t]),
-    ("cqdb_index_parts", c_uint32, [Record, c_void_p] + _LENT + _LENT),
+    ("cqdb_index_parts", c_uint32, [c_void_p, c_void_p, c_void_p] + _LENT * 2),
     ("cqdb_put_indexed_parts", c_uint32, [c_void_p, c_void_p, c_void_p] + _LENT * 3 + [c_uint32]),
-    ("cqdb_close_parts", CloseAnswer, [Record, c_void_p] + _LENT),
-    ("cqdb_grown_parts", RecordAnswer, [Record, c_uint64]),
+    ("cqdb_close_parts", CloseAnswer, [c_void_p, c_void_p, c_void_p] + _LENT),
+    ("cqdb_grown_parts", c_uint32, [c_void_p, c_void_p, c_uint64]),
     ("cqdb_build_needs", BuildNeeds, [c_uint32, c_size_t] + _LENT),
     ("cqdb_build_parts", BuildAnswer, [c_uint32, c_uint32] + _LENT * 6),
     ("cqdb_sheet_read", SheetAnswer, _LENT),

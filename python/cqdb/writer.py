@@ -16,6 +16,11 @@ FIRST_NAMES = 64
 LARGEST_IMAGE = 4_294_967_295
 
 
+def _in_place(record: Record) -> Any:
+    """A record as the library takes it: its four numbers, and its two sizes."""
+    return ctypes.byref(record), ctypes.byref(record, Record.length.offset)
+
+
 class _Held:
     """What a writer holds: its record, counts, buffer, and the words of its index. The library changes them in place, all of them in
     one call. A larger one takes the place of this as a whole, so an exception at any moment, as that of a signal, leaves a writer
@@ -27,8 +32,7 @@ class _Held:
         self.record, self.counts, self.buffer = record, counts, buffer
         # The index is right whenever no call is under way. Half of it stays empty up to this number of names.
         self.slots, self.names = slots, names
-        numbers, sizes = ctypes.byref(record), ctypes.byref(record, Record.length.offset)
-        self.parts = (numbers, sizes, counts, buffer, len(buffer), slots, len(slots))
+        self.parts = (*_in_place(record), counts, buffer, len(buffer), slots, len(slots))
 
 
 class Writer:
@@ -101,7 +105,7 @@ class Writer:
     def _index(self, names: int) -> _Held:
         """Makes the index anew, for so many names."""
         held, slots = self._held, _words(names)
-        accept(calls.cqdb_index_parts(held.record, held.counts, held.buffer, len(held.buffer), slots, len(slots)))
+        accept(calls.cqdb_index_parts(*held.parts[:5], slots, len(slots)))
         self._held = larger = _Held(held.record, held.counts, held.buffer, slots, names)
         return larger
 
@@ -115,9 +119,9 @@ class Writer:
             return False
         larger = _longer(length, needed)
         ctypes.memmove(larger, held.buffer, held.record.end)
-        grown = calls.cqdb_grown_parts(held.record, len(larger))
-        accept(grown.refusal)
-        self._held = _Held(grown.record, held.counts, larger, held.slots, held.names)
+        record = Record.from_buffer_copy(held.record)
+        accept(calls.cqdb_grown_parts(*_in_place(record), len(larger)))
+        self._held = _Held(record, held.counts, larger, held.slots, held.names)
         return True
 
     def close(self) -> bytes:
@@ -126,7 +130,7 @@ class Writer:
             busy, held = self._busy, self._held
             try:
                 self._busy = True
-                answer = calls.cqdb_close_parts(held.record, held.counts, held.buffer, len(held.buffer))
+                answer = calls.cqdb_close_parts(*held.parts[:5])
                 accept(answer.refusal)
                 return held.buffer[: answer.size]
             finally:

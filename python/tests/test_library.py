@@ -23,9 +23,7 @@ STRUCTS = {
     "cqdb_moved_answer": library.MovedAnswer,
     "cqdb_one_to_one_answer": library.OneToOneAnswer,
     "cqdb_round_answer": library.RoundAnswer,
-    "cqdb_record": library.Record,
-    "cqdb_put_answer": library.RecordAnswer,
-    "cqdb_close_parts_answer": library.CloseAnswer,
+    "cqdb_close_answer": library.CloseAnswer,
     "cqdb_build_answer": library.BuildAnswer,
     "cqdb_build_needs_answer": library.BuildNeeds,
     "cqdb_sheet_answer": library.SheetAnswer,
@@ -42,7 +40,6 @@ TYPES = {
     ctypes.c_uint16: "uint16_t",
     ctypes.c_uint32: "uint32_t",
     ctypes.c_uint64: "uint64_t",
-    library.Record: "cqdb_record",
     library.StrAnswer: "cqdb_str_answer",
     library.Date: "cqdb_date",
 }
@@ -89,7 +86,7 @@ class Loading(unittest.TestCase):
         return ran.stderr.splitlines()[-1]
 
     def test_a_library_that_is_not_there(self) -> None:
-        self.assertRegex(self.message("/no/such/libcqdb.so.0"), "ImportError: cqdb: cannot load /no/such/.*make-shared.*CQDB_LIBRARY")
+        self.assertRegex(self.message("/no/such/libcqdb.so.1"), "ImportError: cqdb: cannot load /no/such/.*make-shared.*CQDB_LIBRARY")
 
     def test_a_file_that_is_no_library(self) -> None:
         with tempfile.NamedTemporaryFile() as file:

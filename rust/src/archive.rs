@@ -59,7 +59,6 @@ pub struct RecordAnswer {
 pub struct CloseAnswer {
     pub refusal: u32,
     pub size: u32,
-    pub record: Record,
 }
 
 /// The reference must be sighted before the wall prism.
@@ -283,19 +282,27 @@ extern "C" {
         len: usize,
     ) -> u32;
     fn cqdb_put_parts(
-        record: Record,
+        numbers: *mut u32,
+        sizes: *mut u64,
         counts: *mut u32,
         buf: *mut u8,
         len: usize,
         name: *const u8,
         name_len: usize,
         id: u32,
-    ) -> RecordAnswer;
-    fn cqdb_close_parts(record: Record, counts: *const u32, buf: *mut u8, len: usize) -> CloseAnswer;
-    fn cqdb_grown_parts(record: Record, len: u64) -> RecordAnswer;
+    ) -> u32;
+    fn cqdb_close_parts(
+        numbers: *const u32,
+        sizes: *const u64,
+        counts: *const u32,
+        buf: *mut u8,
+        len: usize,
+    ) -> CloseAnswer;
+    fn cqdb_grown_parts(numbers: *const u32, sizes: *mut u64, len: u64) -> u32;
     fn cqdb_index_words(names: usize) -> usize;
     fn cqdb_index_parts(
-        record: Record,
+        numbers: *const u32,
+        sizes: *const u64,
         counts: *const u32,
         buf: *const u8,
         len: usize,
@@ -489,23 +496,48 @@ fn in_place(record: &mut Record) -> (*mut u32, *mut u64) {
     (record.cast(), unsafe { std::ptr::addr_of_mut!((*record).length) })
 }
 
-/// One put.
-pub fn put(record: Record, counts: &mut Counts, buf: &mut [u8], name: &[u8], id: u32) -> RecordAnswer {
+/// The same of a record that is only read.
+fn read_in_place(record: &Record) -> (*const u32, *const u64) {
+    let record: *const Record = record;
+    // SAFETY: the pointer is that of a record, and a place of it is taken, not read.
+    (record.cast(), unsafe { std::ptr::addr_of!((*record).length) })
+}
+
+/// One put; 0, or the refusal. The record is changed in place.
+#[inline]
+pub fn put_in(record: &mut Record, counts: &mut Counts, buf: &mut [u8], name: &[u8], id: u32) -> u32 {
+    let (numbers, sizes) = in_place(record);
     let (buf, len) = (buf.as_mut_ptr(), buf.len());
-    // SAFETY: the counts are 256 words and the buffer is lent with its length; both are `&mut`, so they overlap neither each other nor the name.
-    unsafe { cqdb_put_parts(record, counts.as_mut_ptr(), buf, len, name.as_ptr(), name.len(), id) }
+    // SAFETY: the record is lent in place, the counts are 256 words and the buffer is lent with its length; all are `&mut`, so they overlap
+    // neither each other nor the name.
+    unsafe { cqdb_put_parts(numbers, sizes, counts.as_mut_ptr(), buf, len, name.as_ptr(), name.len(), id) }
+}
+
+/// One put, with the record to go on with.
+pub fn put(mut record: Record, counts: &mut Counts, buf: &mut [u8], name: &[u8], id: u32) -> RecordAnswer {
+    let refusal = put_in(&mut record, counts, buf, name, id);
+    RecordAnswer { refusal, record }
 }
 
 /// One close.
 pub fn close(record: Record, counts: &Counts, buf: &mut [u8]) -> CloseAnswer {
-    // SAFETY: the counts are 256 words, which are read; the buffer is lent with its length, and as a `&mut` does not overlap them.
-    unsafe { cqdb_close_parts(record, counts.as_ptr(), buf.as_mut_ptr(), buf.len()) }
+    let (numbers, sizes) = read_in_place(&record);
+    // SAFETY: the record is lent in place and the counts are 256 words, which are read; the buffer is lent with its length, and as a `&mut`
+    // does not overlap them.
+    unsafe { cqdb_close_parts(numbers, sizes, counts.as_ptr(), buf.as_mut_ptr(), buf.len()) }
+}
+
+/// Takes the new length of a buffer that has grown; 0, or the refusal. The record is changed in place.
+pub fn grown_in(record: &mut Record, len: u64) -> u32 {
+    let (numbers, sizes) = in_place(record);
+    // SAFETY: the record is lent in place, as a `&mut`.
+    unsafe { cqdb_grown_parts(numbers, sizes, len) }
 }
 
 /// The record of a buffer that has grown to this length, or the refusal.
-pub fn grown(record: Record, len: u64) -> RecordAnswer {
-    // SAFETY: the call is lent nothing: the record goes and comes by value.
-    unsafe { cqdb_grown_parts(record, len) }
+pub fn grown(mut record: Record, len: u64) -> RecordAnswer {
+    let refusal = grown_in(&mut record, len);
+    RecordAnswer { refusal, record }
 }
 
 /// How many words to lend for an index of this many names.
@@ -516,9 +548,10 @@ pub fn index_words(names: usize) -> usize {
 
 /// Makes the slots the index of the entries in the buffer; 0, or the refusal.
 pub fn index(record: Record, counts: &Counts, buf: &[u8], slots: &mut [u32]) -> u32 {
+    let (numbers, sizes) = read_in_place(&record);
     let (buf, len) = (buf.as_ptr(), buf.len());
-    // SAFETY: counts, 256 words, and buffer are only read; the slots are lent with their number of words, and as a `&mut` overlap neither.
-    unsafe { cqdb_index_parts(record, counts.as_ptr(), buf, len, slots.as_mut_ptr(), slots.len()) }
+    // SAFETY: record, counts, 256 words, and buffer are only read; the slots are lent with their number of words, and as a `&mut` overlap none.
+    unsafe { cqdb_index_parts(numbers, sizes, counts.as_ptr(), buf, len, slots.as_mut_ptr(), slots.len()) }
 }
 
 /// One put by an index; 0, or the refusal. The record is changed in place.

@@ -139,9 +139,7 @@ impl MemoryWriter {
 
     fn put_here(&mut self, name: &[u8], id: u32) -> Result<(), Refusal> {
         let Some(index) = &mut self.index else {
-            let answer = archive::put(self.record, &mut self.counts, &mut self.buffer, name, id);
-            self.record = answer.record;
-            return refusal::or(answer.refusal, ());
+            return refusal::or(archive::put_in(&mut self.record, &mut self.counts, &mut self.buffer, name, id), ());
         };
         if index.names <= self.record.entries {
             index.enlarge(self.record, &self.counts, &self.buffer);

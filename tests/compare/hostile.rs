@@ -186,7 +186,7 @@ impl Run {
         let after = State { record: answer.record, counts: *counts, buf: buf.to_vec() };
         let answer = archive::close(after.record, &counts, &mut buf);
         if answer.refusal > 0 {
-            self.unchanged((answer.record, &counts, &buf), &after, "a refused close");
+            self.unchanged((after.record, &counts, &buf), &after, "a refused close");
         } else {
             let (size, end) = (answer.size as usize, after.record.end as usize);
             self.tally.bytes(&buf[HEAD..end], &after.buf[HEAD..end], || "the entries after a close".into());

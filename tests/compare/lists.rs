@@ -100,10 +100,9 @@ impl Run {
     fn close(&mut self, lent: &mut Lent, accepted: &[Put]) -> usize {
         let size = finished_size(accepted.iter()) as u32;
         let answer = archive::close(lent.record, &lent.counts, &mut lent.buf);
-        let want = CloseAnswer { refusal: 0, size, record: lent.record };
+        let want = CloseAnswer { refusal: 0, size };
         self.closes += 1;
         self.tally.rule(answer, want, || format!("close of {} puts", accepted.len()));
-        lent.record = answer.record;
         size as usize
     }
 

@@ -100,7 +100,7 @@ impl Run {
             Err(refusal) => (*refusal, 0),
         };
         self.closes[refusal as usize] += 1;
-        self.tally.rule(answer, CloseAnswer { refusal, size, record: want.record }, || format!("close on {:?}", want.record));
+        self.tally.rule(answer, CloseAnswer { refusal, size }, || format!("close on {:?}", want.record));
         self.state(s, &want, || "a close".into());
         *s = want;
         (refusal == 0).then_some(size)
@@ -240,7 +240,7 @@ fn limits(run: &mut Run) {
     let entry = archive::put(oneway, &mut counts, &mut room, b"A", 1_073_741_299).record;
     let record = Record { mode: 0, back: 1_073_741_300, ..entry };
     let answer = archive::close(record, &counts, &mut room);
-    run.tally.rule(answer, CloseAnswer { refusal: 4, size: 0, record }, || "a close above the limit".into());
+    run.tally.rule(answer, CloseAnswer { refusal: 4, size: 0 }, || "a close above the limit".into());
 }
 
 fn main() {

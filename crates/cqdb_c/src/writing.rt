@@ -1,9 +1,8 @@
-// Writing, for C. Put, close and grown take and return the record by value, begin is lent it in place; the 256 table
-// counts and the buffer are lent. A record whose mode or choice of repeats is neither 0 nor 1 is none of 01's and fits
-// no buffer.
+// Writing, for C. The record is lent in place, as four numbers and two sizes; the 256 table counts and the buffer are
+// lent, too. A record whose mode or choice of repeats is neither 0 nor 1 is none of 01's and fits no buffer.
 use writer::Begun;
 use writer::Closed;
-use writer::c_record::Record;
+use writer::c_record::record_in;
 use writer::c_record::record_of;
 use writer::c_record::writer_of;
 use writer::numbers::known;
@@ -13,24 +12,16 @@ ghost use mathlib.Core.Path.{_≡_};
 ghost use lib.ListN.{length};
 ghost use Rattle.writer.specs.Put.{entryOf};
 ghost use Rattle.writer.specs.Close.{closedOf};
-ghost use Rattle.writer.specs.CRecord.{cState};
+ghost use Rattle.writer.specs.CRecord.{recordIn, lentState};
 ghost use Rattle.cqdb_c.specs.Writing.{beginningOf, numberIn, lentWriter, leftByBegin, putNumber, leftByPut};
 ghost use Rattle.cqdb_c.specs.Writing.{closingOf, refusalIn, sizeIn, leftByClose};
 ghost use Rattle.cqdb_c.specs.Grown.{grownNumber, recordGrown};
 
-// What put and grown answer: the refusal's number, 0 when accepted; the record to go on with.
-#[repr(C)]
-pub struct PutAnswer {
-    pub refusal: u32,
-    pub writer: Record,
-}
-
-// The refusal's number, 0 when accepted; the image's size, 0 when refused; the record to go on with.
+// What close answers: the refusal's number, 0 when accepted; the image's size, 0 when refused.
 #[repr(C)]
 pub struct CloseAnswer {
     pub refusal: u32,
     pub size: u32,
-    pub writer: Record,
 }
 
 // Makes the writer, which is lent in place, fresh for a buffer; or refusal 1, or 2 for a mode or a choice of repeats
@@ -69,32 +60,37 @@ pub extern "C" fn cqdb_begin_parts(
 // Appends an entry and raises the counts; or refusal 2, 13, 4, 16 or 3.
 #[no_mangle]
 pub extern "C" fn cqdb_put_parts(
-    w: Record,
+    numbers: &mut [u32; 4],
+    sizes: &mut [u64; 2],
     counts: &mut [u32; 256],
     buf: &mut [u8],
     name: &[u8],
     id: u32,
-) -> PutAnswer
+) -> u32
     ensures answer { λ r. ⌜
-        r .refusal ≡ putNumber (cState w (now (counts .entry)) (now (buf .entry))) (entryOf (now (name .entry)) id)
+        r ≡ putNumber
+        (lentState (now (numbers .entry)) (now (sizes .entry)) (now (counts .entry)) (now (buf .entry)))
+        (entryOf (now (name .entry)) id)
         ⌝ }
     ensures leaves { λ r. ⌜
-        cState (r .writer) (now (counts .exit)) (now (buf .exit))
-        ≡ leftByPut (cState w (now (counts .entry)) (now (buf .entry))) (entryOf (now (name .entry)) id)
+        (length (now (numbers .entry)) ≡ 4
+        → length (now (sizes .entry)) ≡ 2
+        → lentState (now (numbers .exit)) (now (sizes .exit)) (now (counts .exit)) (now (buf .exit))
+        ≡ leftByPut
+        (lentState (now (numbers .entry)) (now (sizes .entry)) (now (counts .entry)) (now (buf .entry)))
+        (entryOf (now (name .entry)) id))
         ⌝ }
 {
+    let w = record_in(&*numbers, &*sizes);
     if !known(w.mode, w.repeats) {
-        return PutAnswer {
-            refusal: 2,
-            writer: w,
-        };
+        return 2;
     }
     let done = writer::put(writer_of(w), &mut *counts, &mut *buf, name, id);
     let after = done.writer;
-    PutAnswer {
-        refusal: done.refusal,
-        writer: record_of(after),
-    }
+    numbers[2] = after.entries;
+    numbers[3] = after.back;
+    sizes[1] = after.end;
+    done.refusal
 }
 
 // The number of close's refusal.
@@ -119,49 +115,59 @@ fn close_size(answer: Closed) -> u32
 
 // Writes head, tables and back array, and gives the image's size; or refusal 2 or 4.
 #[no_mangle]
-pub extern "C" fn cqdb_close_parts(w: Record, counts: &[u32; 256], buf: &mut [u8]) -> CloseAnswer
+pub extern "C" fn cqdb_close_parts(
+    numbers: &[u32; 4],
+    sizes: &[u64; 2],
+    counts: &[u32; 256],
+    buf: &mut [u8],
+) -> CloseAnswer
     ensures refusal { λ r. ⌜
-        r .refusal ≡ refusalIn (closingOf (cState w (now (counts .entry)) (now (buf .entry))))
+        r .refusal ≡ refusalIn
+        (closingOf
+        (lentState (now (numbers .entry)) (now (sizes .entry)) (now (counts .entry)) (now (buf .entry))))
         ⌝ }
-    ensures size { λ r. ⌜ r .size ≡ sizeIn (closingOf (cState w (now (counts .entry)) (now (buf .entry)))) ⌝ }
+    ensures size { λ r. ⌜
+        r .size ≡ sizeIn
+        (closingOf
+        (lentState (now (numbers .entry)) (now (sizes .entry)) (now (counts .entry)) (now (buf .entry))))
+        ⌝ }
     ensures leaves { λ r. ⌜
-        cState (r .writer) (now (counts .entry)) (now (buf .exit))
-        ≡ leftByClose (cState w (now (counts .entry)) (now (buf .entry)))
+        lentState (now (numbers .entry)) (now (sizes .entry)) (now (counts .entry)) (now (buf .exit))
+        ≡ leftByClose
+        (lentState (now (numbers .entry)) (now (sizes .entry)) (now (counts .entry)) (now (buf .entry)))
         ⌝ }
 {
+    let w = record_in(numbers, sizes);
     if !known(w.mode, w.repeats) {
         return CloseAnswer {
             refusal: 2,
             size: 0,
-            writer: w,
         };
     }
     let done = writer::close(writer_of(w), counts, &mut *buf);
     let answer = done.answer;
-    let after = done.writer;
     CloseAnswer {
         refusal: close_number(answer),
         size: close_size(answer),
-        writer: record_of(after),
     }
 }
 
 // Takes the new length of a buffer that has grown; or refusal 2 where it has become shorter.
 #[no_mangle]
-pub extern "C" fn cqdb_grown_parts(w: Record, length: u64) -> PutAnswer
-    ensures answer { λ r. ⌜ r .refusal ≡ grownNumber w length ⌝ }
-    ensures leaves { λ r. ⌜ r .writer ≡ recordGrown w length ⌝ }
+pub extern "C" fn cqdb_grown_parts(numbers: &[u32; 4], sizes: &mut [u64; 2], longer: u64) -> u32
+    ensures answer { λ r. ⌜ r ≡ grownNumber (recordIn (now (numbers .entry)) (now (sizes .entry))) longer ⌝ }
+    ensures leaves { λ r. ⌜
+        (length (now (sizes .entry)) ≡ 2
+        → recordIn (now (numbers .entry)) (now (sizes .exit))
+        ≡ recordGrown (recordIn (now (numbers .entry)) (now (sizes .entry))) longer)
+        ⌝ }
 {
+    let w = record_in(numbers, &*sizes);
     if !known(w.mode, w.repeats) {
-        return PutAnswer {
-            refusal: 2,
-            writer: w,
-        };
+        return 2;
     }
-    let done = writer::grown(writer_of(w), length);
+    let done = writer::grown(writer_of(w), longer);
     let after = done.writer;
-    PutAnswer {
-        refusal: done.refusal,
-        writer: record_of(after),
-    }
+    sizes[0] = after.length;
+    done.refusal
 }

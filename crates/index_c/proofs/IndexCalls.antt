@@ -5,25 +5,23 @@ use native.Mathlib.Omega.{arith}
 use mathlib.Core.Path.{_≡_, refl, sym, ap, subst, _∙_}
 use mathlib.Core.Bool.{Bool, true, false}
 use mathlib.Core.List.{List}
-use lib.ListN.{length, getD, set, length-set}
-use lib.Seq.{getD-set-same, getD-set-other}
+use lib.ListN.{length}
 use lib.Dec.{eqb}
 use borrow.Author.Tests.{eqb-true, eqb-false}
-use Rattle.image.specs.Image.{Entry, flagWord}
+use Rattle.image.specs.Image.{Entry}
 use Rattle.image.proofs.Bools.{false-not-true}
 use Rattle.writer.specs.declared.CQDBWriter.{CQDBWriter}
 use Rattle.writer.specs.State.{State, stateWith}
 use Rattle.writer.specs.Put.{writerAfterEntry, appended}
 use Rattle.writer.specs.Close.{afterClose}
 use Rattle.writer.specs.declared.c_record.Record.{Record}
-use Rattle.writer.specs.Numbers.{repeatsWord}
 use Rattle.writer.specs.CRecord.{writerOf, recordOf, CState, cState, knownIn, stateIn, cStateOf}
-use Rattle.writer.proofs.CRecords.{back-and-forth, forth-and-back, cState-known}
+use Rattle.writer.proofs.CRecords.{back-and-forth, forth-and-back, cState-known, recordAfter, Stay, whole-stored}
 use Rattle.lists.specs.theorems.LongerBuffer.{movedTo}
 use Rattle.index.specs.Index.{Right}
 use Rattle.index.specs.Promise.{PutIndexed, Indexed}
 use Rattle.index.proofs.RightKept.{kept-right}
-use Rattle.index_c.specs.IndexC.{recordIn, RightHeld, putBySlotsNumber, putIndexedNumber, leftByPutIndexed, PutIndexedHeld, indexNumber, IndexedHeld}
+use Rattle.index_c.specs.IndexC.{RightHeld, putBySlotsNumber, putIndexedNumber, leftByPutIndexed, PutIndexedHeld, indexNumber, IndexedHeld}
 use Rattle.index_c.specs.theorems.KeptRightHeld.{KeptRightHeld}
 
 -- 01's state with a right index, as C has it
@@ -88,70 +86,22 @@ module _ (h : CState) {words : List ℕ} {e : Entry} {v w' : CQDBWriter} {counts
         right = right-is;
       }
 
--- C's record, of which entries, back size and end are stored, is the record that the put hands back
-abbrev pub recordAfter : Record → CQDBWriter → Record
-recordAfter r w =
-    record {
-      mode = r .mode;
-      repeats = r .repeats;
-      entries = w .entries;
-      back = w .back;
-      length = r .length;
-      end = w .end;
-    }
-
-pub record-stored : (numbers sizes : List ℕ) (w : CQDBWriter) → length numbers ≡ 4 → length sizes ≡ 2
-    → recordIn (set (set numbers 2 (w .entries)) 3 (w .back)) (set sizes 1 (w .end)) ≡ recordAfter (recordIn numbers sizes) w
-record-stored numbers sizes w four two =
-    λ i. record {
-      mode = (other 0 (λ z. omega (arith, z)) (λ z. omega (arith, z))) i;
-      repeats = (other 1 (λ z. omega (arith, z)) (λ z. omega (arith, z))) i;
-      entries =
-          (getD-set-other (set numbers 2 (w .entries)) 3 2 (w .back) 0 (λ z. omega (arith, z))
-          ∙ getD-set-same numbers 2 (w .entries) 0 (omega (arith, four))) i;
-      back = getD-set-same (set numbers 2 (w .entries)) 3 (w .back) 0 (omega (arith, four, length-set numbers 2 (w .entries))) i;
-      length = getD-set-other sizes 1 0 (w .end) 0 (λ z. omega (arith, z)) i;
-      end = getD-set-same sizes 1 (w .end) 0 (omega (arith, two)) i;
-    }
-  where
-    other : (j : ℕ) → (j ≡ 2 → ⊥) → (j ≡ 3 → ⊥) → getD (set (set numbers 2 (w .entries)) 3 (w .back)) j 0 ≡ getD numbers j 0
-    other j x y = getD-set-other (set numbers 2 (w .entries)) 3 j (w .back) 0 y ∙ getD-set-other numbers 2 j (w .entries) 0 x
-
 module _ (h : CState) {words : List ℕ} {e : Entry} {v w' : CQDBWriter} {counts buffer words′ : List ℕ} {k : ℕ} (fine : knownIn h ≡ true)
     (is : v ≡ writerOf (h .writer)) (given : PutIndexed (stateWith v (h .counts) (h .buffer)) words e k (stateWith w' counts buffer) words′) where
-  -- mode, choice and length stay
-  record Stay (w : CQDBWriter) : Type 0 where
-    modes : w .mode ≡ v .mode
-    choices : w .repeats ≡ v .repeats
-    lengths : w .length ≡ v .length
-
-  stay : Stay w'
+  kept : Stay v w'
   unfolding appended writerAfterEntry
-  stay = by-answer (eqb k 0) refl
+  kept = by-answer (eqb k 0) refl
     where
-      stays : (s : State) → stateWith w' counts buffer ≡ s → Stay (s .writer) → Stay w'
-      stays s e = subst (λ (t : State). Stay (t .writer)) (sym e)
+      stays : (s : State) → stateWith w' counts buffer ≡ s → Stay v (s .writer) → Stay v w'
+      stays s e = subst (λ (t : State). Stay v (t .writer)) (sym e)
 
-      by-answer : (b : Bool) → eqb k 0 ≡ b → Stay w'
+      by-answer : (b : Bool) → eqb k 0 ≡ b → Stay v w'
       by-answer true x = stays _ (given .accepted (eqb-true k 0 x) .0) (record { modes = refl; choices = refl; lengths = refl })
       by-answer false x = stays _ (given .refused (eqb-false k 0 x) .0) (record { modes = refl; choices = refl; lengths = refl })
 
-  known-back : recordOf (writerOf (h .writer)) ≡ h .writer
-  known-back = ap (λ (x : CState). x .writer) (back-and-forth h fine)
-
-  after-is : recordAfter (h .writer) w' ≡ recordOf w'
-  after-is =
-      λ i. record {
-        mode = (sym (ap (λ (x : Record). x .mode) known-back) ∙ ap flagWord (sym (stay .modes ∙ ap (λ (w : CQDBWriter). w .mode) is))) i;
-        repeats = (sym (ap (λ (x : Record). x .repeats) known-back) ∙ ap repeatsWord (sym (stay .choices ∙ ap (λ (w : CQDBWriter). w .repeats) is))) i;
-        entries = w' .entries;
-        back = w' .back;
-        length = sym (stay .lengths ∙ ap (λ (w : CQDBWriter). w .length) is) i;
-        end = w' .end;
-      }
-
   pub put-stored : {r : Record} → r ≡ recordAfter (h .writer) w' → PutIndexedHeld h words e k (cState r counts buffer) words′
-  put-stored back = put-known h fine is given (back ∙ after-is)
+  put-stored back =
+      put-known h fine is given (back ∙ whole-stored (h .writer) w' fine (subst (λ (x : CQDBWriter). Stay x w') is kept))
 
 -- ---- making the index
 

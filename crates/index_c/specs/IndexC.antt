@@ -10,7 +10,6 @@ use lib.Dec.{ltb}
 use Rattle.jhash.specs.NameHash.{hashOf}
 use Rattle.image.specs.Image.{Entry}
 use Rattle.writer.specs.Put.{appended}
-use Rattle.writer.specs.declared.c_record.Record.{Record}
 use Rattle.writer.specs.CRecord.{CState, knownIn, stateIn, cStateOf}
 use Rattle.index.specs.Refusals.{refusalBySlots}
 use Rattle.index.specs.Index.{slotCount, slotInserted, Right, indexedRefusal, afterIndexed, indexRefusal}
@@ -18,18 +17,6 @@ use Rattle.index.specs.Index.{slotCount, slotInserted, Right, indexedRefusal, a
 -- two slots a name, two words a slot; where that exceeds 64 bits, the largest number of 64 bits
 abbrev pub indexWords : ℕ → ℕ
 indexWords names = cond (ltb 18446744073709551615 (4 * names)) 18446744073709551615 (4 * names)
-
--- the record in C's writer: mode, repeats, entries and back size; then the buffer's length and the end of the entries
-abbrev pub recordIn : List ℕ → List ℕ → Record
-recordIn numbers sizes =
-    record {
-      mode = getD numbers 0 0;
-      repeats = getD numbers 1 0;
-      entries = getD numbers 2 0;
-      back = getD numbers 3 0;
-      length = getD sizes 0 0;
-      end = getD sizes 1 0;
-    }
 
 -- the index is right for what is lent
 pub record RightHeld (h : CState) (words : List ℕ) : Type 0 where

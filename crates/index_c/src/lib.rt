@@ -1,12 +1,13 @@
-// The index for C: the 256 table counts, the buffer and the slots are lent. A record whose mode or choice of repeats is
-// neither 0 nor 1 is none of 01's and fits no buffer. It is compiled by itself, so that hash, probe and store have one
-// caller each and are inlined (docs/DECISIONS.md, "Why several export crates?").
+// The index for C: the record is lent in place, as four numbers and two sizes; the 256 table counts, the buffer and the
+// slots are lent, too. A record whose mode or choice of repeats is neither 0 nor 1 is none of 01's and fits no buffer.
+// This crate is compiled by itself, so that hash, probe and store have one caller each and are inlined
+// (docs/DECISIONS.md, "Why several export crates?").
 ghost use mathlib.Core.Path.{_≡_};
 ghost use lib.ListN.{length};
 ghost use Rattle.writer.specs.Put.{entryOf};
-ghost use Rattle.writer.specs.CRecord.{cState};
-ghost use Rattle.index_c.specs.IndexC.{indexWords, recordIn, PutIndexedHeld, IndexedHeld};
-use writer::c_record::Record;
+ghost use Rattle.writer.specs.CRecord.{lentState};
+ghost use Rattle.index_c.specs.IndexC.{indexWords, PutIndexedHeld, IndexedHeld};
+use writer::c_record::record_in;
 use writer::c_record::writer_of;
 use writer::numbers::known;
 
@@ -25,38 +26,26 @@ pub extern "C" fn cqdb_index_words(names: usize) -> usize
 // Makes the index of the entries in the buffer. Gives 0, or refusal 2, 4 or 24, and nothing is written.
 #[no_mangle]
 pub extern "C" fn cqdb_index_parts(
-    w: Record,
+    numbers: &[u32; 4],
+    sizes: &[u64; 2],
     counts: &[u32; 256],
     buf: &[u8],
     slots: &mut [u32],
 ) -> u32
     ensures { λ r. ⌜
-        IndexedHeld (cState w (now (counts .entry)) (now (buf .entry))) (now (slots .entry)) r (now (slots .exit))
+        IndexedHeld (lentState (now (numbers .entry)) (now (sizes .entry)) (now (counts .entry)) (now (buf .entry)))
+        (now (slots .entry)) r (now (slots .exit))
         ⌝ }
 {
+    let w = record_in(numbers, sizes);
     if !known(w.mode, w.repeats) {
         return 2;
     }
     index::index(writer_of(w), counts, buf, &mut *slots)
 }
 
-// The record in C's writer: mode, repeats, entries and back size; then the buffer's length and the end of the entries.
-fn record_in(numbers: &[u32; 4], sizes: &[u64; 2]) -> Record
-    ensures { λ r. ⌜ r ≡ recordIn (now (numbers .entry)) (now (sizes .entry)) ⌝ }
-{
-    Record {
-        mode: numbers[0],
-        repeats: numbers[1],
-        entries: numbers[2],
-        back: numbers[3],
-        length: sizes[0],
-        end: sizes[1],
-    }
-}
-
-// Appends an entry, raises its count and stores its slot; or refusal 2, 13, 16, 3 or 24, and nothing changes. The
-// record is lent in place: by value, in and out, it costs 6 ns a put, since its words are stored one by one and loaded
-// four at a time.
+// Appends an entry, raises its count and stores its slot; or refusal 2, 13, 16, 3 or 24, and nothing changes. A record
+// by value, in and out, costs 6 ns a put, since its words are stored one by one and loaded four at a time.
 #[no_mangle]
 pub extern "C" fn cqdb_put_indexed_parts(
     numbers: &mut [u32; 4],
@@ -71,9 +60,9 @@ pub extern "C" fn cqdb_put_indexed_parts(
         (length (now (numbers .entry)) ≡ 4
         → length (now (sizes .entry)) ≡ 2
         → PutIndexedHeld
-        (cState (recordIn (now (numbers .entry)) (now (sizes .entry))) (now (counts .entry)) (now (buf .entry)))
+        (lentState (now (numbers .entry)) (now (sizes .entry)) (now (counts .entry)) (now (buf .entry)))
         (now (slots .entry)) (entryOf (now (name .entry)) id) r
-        (cState (recordIn (now (numbers .exit)) (now (sizes .exit))) (now (counts .exit)) (now (buf .exit)))
+        (lentState (now (numbers .exit)) (now (sizes .exit)) (now (counts .exit)) (now (buf .exit)))
         (now (slots .exit)))
         ⌝ }
 {

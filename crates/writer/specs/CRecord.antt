@@ -2,6 +2,7 @@
 use Prim.Native.Nat.{ℕ}
 use mathlib.Core.Bool.{Bool}
 use mathlib.Core.List.{List}
+use lib.ListN.{getD}
 use Rattle.image.specs.Image.{flagWord}
 use Rattle.writer.specs.declared.CQDBWriter.{CQDBWriter}
 use Rattle.writer.specs.State.{State, stateWith}
@@ -31,6 +32,18 @@ recordOf w =
       end = w .end;
     }
 
+-- C's writer is lent in place: the record's numbers (mode, repeats, entries, back size) and sizes (length, end)
+abbrev pub recordIn : List ℕ → List ℕ → Record
+recordIn numbers sizes =
+    record {
+      mode = getD numbers 0 0;
+      repeats = getD numbers 1 0;
+      entries = getD numbers 2 0;
+      back = getD numbers 3 0;
+      length = getD sizes 0 0;
+      end = getD sizes 1 0;
+    }
+
 -- what a call is lent, as C has it: the record, its 256 table counts and the buffer
 pub record CState : Type 0 where
   pub writer : Record
@@ -39,6 +52,9 @@ pub record CState : Type 0 where
 
 abbrev pub cState : Record → List ℕ → List ℕ → CState
 cState w counts buffer = record { writer = w; counts = counts; buffer = buffer }
+
+abbrev pub lentState : List ℕ → List ℕ → List ℕ → List ℕ → CState
+lentState numbers sizes counts buffer = cState (recordIn numbers sizes) counts buffer
 
 -- the state of 01's rules that it stands for, and the other way round
 abbrev pub stateIn : CState → State

@@ -4,7 +4,7 @@ use super::numbers::mode_of;
 use super::numbers::repeats_of;
 use super::numbers::repeats_word;
 ghost use mathlib.Core.Path.{_≡_};
-ghost use Rattle.writer.specs.CRecord.{writerOf, recordOf};
+ghost use Rattle.writer.specs.CRecord.{writerOf, recordOf, recordIn};
 
 // The mode (0 two-way, 1 one-way), the choice of repeats (0 off, 1 on), the number of entries, the back size, the
 // buffer's length and the end of the entries.
@@ -16,6 +16,21 @@ pub struct Record {
     pub back: u32,
     pub length: u64,
     pub end: u64,
+}
+
+// The record that is lent in place: mode, repeats, entries and back size; then the buffer's length and the end of the
+// entries.
+pub fn record_in(numbers: &[u32; 4], sizes: &[u64; 2]) -> Record
+    ensures { λ r. ⌜ r ≡ recordIn (now (numbers .entry)) (now (sizes .entry)) ⌝ }
+{
+    Record {
+        mode: numbers[0],
+        repeats: numbers[1],
+        entries: numbers[2],
+        back: numbers[3],
+        length: sizes[0],
+        end: sizes[1],
+    }
 }
 
 // The record as the writer has it.

@@ -1,26 +1,43 @@
 -- `index_c::cqdb_index_parts` meets its contract: what `index` promises, of C's record. Assumes nothing.
-use mathlib.Core.Path.{sym, _∙_}
+use mathlib.Core.Path.{_≡_, sym, ap, _∙_}
+use mathlib.Core.Bool.{Bool}
 use borrow.Author.Tests.{not-true, not-false}
-use Rattle.writer.specs.CRecord.{CState, cState}
+use Rattle.writer.specs.declared.c_record.Record.{Record}
+use Rattle.writer.specs.Numbers.{known}
+use Rattle.writer.specs.CRecord.{writerOf, CState, lentState, knownIn}
 use Rattle.index_c.proofs.IndexCalls.{index-unknown, index-known}
 use borrow.Author.Needs.{needs}
 use Rattle.index_c.proofs.cqdb_index_parts.Statement.{statement}
 use Rattle.index_c.proofs.cqdb_index_parts.Tie as tie
 
--- what was lent
+-- what was lent, and whether its modes are known
+abbrev begun : tie.After-known → tie.Start
+begun k = k .before .before .before .before
+
 abbrev H : tie.After-known → CState
-H k = let a = k .before .before .before .args in cState (a .w) (a .counts .now) (a .buf .now)
+H k = let a = begun k .args in lentState (a .numbers .now) (a .sizes .now) (a .counts .now) (a .buf .now)
+
+known-is : (k : tie.After-known) {b : Bool} → k .known .result ≡ b → knownIn (H k) ≡ b
+known-is k e = sym (k .known .ensures ∙ ap (λ (x : Record). known (x .mode) (x .repeats)) (k .before .record-in .ensures)) ∙ e
 
 returns : tie.Need-returns
-returns c = index-unknown (H (c .before)) _ (sym (c .before .known .ensures) ∙ not-true _ (c .if1 .taken))
+returns c = index-unknown (H (c .before)) _ (known-is (c .before) (not-true _ (c .if1 .taken)))
 
 returns-2 : tie.Need-returns-2
 returns-2 c =
     let w = c .before .before .before .before in
     let k = w .before .before in
-    index-known (H k) (sym (k .known .ensures) ∙ not-false _ (w .before .if1 .left)) (w .writer-of .ensures) (c .before .before .index .ensures)
+    index-known (H k) (known-is k (not-false _ (w .before .if1 .left))) (w .writer-of .ensures ∙ ap writerOf (k .before .record-in .ensures))
+    (c .before .before .index .ensures)
 
 pub cqdb-index-parts-spec : {M : Type 1} → statement M
 cqdb-index-parts-spec =
     tie.close
-    (tie.spec (λ c κs. search needs) returns (λ c κs. search needs) (λ c κs. search needs) (λ c. search needs) returns-2)
+    (tie.spec
+    (λ c κs. search needs)
+    (λ c κs. search needs)
+    returns
+    (λ c κs. search needs)
+    (λ c κs. search needs)
+    (λ c. search needs)
+    returns-2)

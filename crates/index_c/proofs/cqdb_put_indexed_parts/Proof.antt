@@ -5,9 +5,9 @@ use borrow.Author.Tests.{not-true, not-false}
 use Rattle.writer.specs.Put.{entryOf}
 use Rattle.writer.specs.declared.c_record.Record.{Record}
 use Rattle.writer.specs.Numbers.{known}
-use Rattle.writer.specs.CRecord.{writerOf, CState, cState, knownIn}
-use Rattle.index_c.specs.IndexC.{recordIn}
-use Rattle.index_c.proofs.IndexCalls.{put-unknown, put-stored, record-stored}
+use Rattle.writer.specs.CRecord.{writerOf, CState, lentState, knownIn}
+use Rattle.writer.proofs.CRecords.{record-stored}
+use Rattle.index_c.proofs.IndexCalls.{put-unknown, put-stored}
 use borrow.Author.Needs.{needs}
 use Rattle.index_c.proofs.cqdb_put_indexed_parts.Statement.{statement}
 use Rattle.index_c.proofs.cqdb_put_indexed_parts.Tie as tie
@@ -17,7 +17,7 @@ abbrev begun : tie.After-known → tie.Start
 begun k = k .before .before .before .before .before .before .before
 
 abbrev H : tie.After-known → CState
-H k = let a = begun k .args in cState (recordIn (a .numbers .now) (a .sizes .now)) (a .counts .now) (a .buf .now)
+H k = let a = begun k .args in lentState (a .numbers .now) (a .sizes .now) (a .counts .now) (a .buf .now)
 
 known-is : (k : tie.After-known) {b : Bool} → k .known .result ≡ b → knownIn (H k) ≡ b
 known-is k e = sym (k .known .ensures ∙ ap (λ (x : Record). known (x .mode) (x .repeats)) (k .before .record-in .ensures)) ∙ e

@@ -1,35 +1,58 @@
--- `cqdb_c::writing::cqdb_put_parts` meets its contract: what `put` promises, put into the struct. Assumes nothing.
-use mathlib.Core.Path.{sym, _∙_}
+-- `cqdb_c::writing::cqdb_put_parts` meets its contract: what `put` promises, of C's record. Assumes nothing.
+use mathlib.Core.Path.{_≡_, sym, ap, _∙_}
+use mathlib.Core.Bool.{Bool}
 use borrow.Author.Tests.{not-true, not-false}
 use Rattle.writer.specs.Put.{entryOf}
-use Rattle.writer.specs.CRecord.{cState}
-use Rattle.cqdb_c.proofs.CCalls.{put-unknown, put-known}
+use Rattle.writer.specs.declared.c_record.Record.{Record}
+use Rattle.writer.specs.Numbers.{known}
+use Rattle.writer.specs.CRecord.{writerOf, CState, lentState, knownIn}
+use Rattle.cqdb_c.proofs.CCalls.{put-unknown}
+use Rattle.writer.proofs.CRecords.{record-stored}
+use Rattle.cqdb_c.proofs.InPlace.{put-answered, put-stored}
 use borrow.Author.Needs.{needs}
 use Rattle.cqdb_c.proofs.writing.cqdb_put_parts.Statement.{statement}
 use Rattle.cqdb_c.proofs.writing.cqdb_put_parts.Tie as tie
 
+-- what was lent, and whether its modes are known
+abbrev begun : tie.After-known → tie.Start
+begun k = k .before .before .before .before .before .before
+
+abbrev H : tie.After-known → CState
+H k = let a = begun k .args in lentState (a .numbers .now) (a .sizes .now) (a .counts .now) (a .buf .now)
+
+known-is : (k : tie.After-known) {b : Bool} → k .known .result ≡ b → knownIn (H k) ≡ b
+known-is k e = sym (k .known .ensures ∙ ap (λ (x : Record). known (x .mode) (x .repeats)) (k .before .record-in .ensures)) ∙ e
+
 returns : tie.Need-returns
 returns c =
-    let a = c .before .before .before .before .args in
-    put-unknown (cState (a .w) (a .counts .now) (a .buf .now)) (entryOf (a .name .now) (a .id)) (sym (c .before .known .ensures) ∙ not-true _ (c .if1 .taken))
+    let a = begun (c .before) .args in
+    let same = put-unknown (H (c .before)) (entryOf (a .name .now) (a .id)) (known-is (c .before) (not-true _ (c .if1 .taken))) in
+    (same .0, λ four two. same .1)
 
 returns-2 : tie.Need-returns-2
 returns-2 c =
-    let given = c .before .before .before .before .before .before .before in
-    let known = given .before in
-    let a = known .before .before .before .before .args in
-    let done = c .before .before .before .before .put in
-    put-known (cState (a .w) (a .counts .now) (a .buf .now)) (entryOf (a .name .now) (a .id)) _ _ _ _ _ _
-    (sym (known .before .known .ensures) ∙ not-false _ (known .if1 .left)) (given .writer-of .ensures) (done .ensures) (c .record-of .ensures)
+    let done = c .before .before .before .put in
+    let w = c .before .before .before .before .before .before in
+    let k = w .before .before in
+    let e = entryOf (begun k .args .name .now) (begun k .args .id) in
+    let fine = known-is k (not-false _ (w .before .if1 .left)) in
+    let is = w .writer-of .ensures ∙ ap writerOf (k .before .record-in .ensures) in (
+      put-answered (H k) e fine is (done .ensures),
+      λ four two. put-stored (H k) e fine is (done .ensures)
+          (record-stored (begun k .args .numbers .now) (begun k .args .sizes .now) (done .result .writer) four two),
+    )
 
 pub cqdb-put-parts-spec : {M : Type 1} → statement M
 cqdb-put-parts-spec =
     tie.close
     (tie.spec
     (λ c κs. search needs)
+    (λ c κs. search needs)
     returns
     (λ c κs. search needs)
     (λ c κs. search needs)
-    (λ c κs. search needs)
+    (λ c. search needs)
+    (λ c. search needs)
+    (λ c. search needs)
     (λ c. search needs)
     returns-2)
