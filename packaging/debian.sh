@@ -1,4 +1,4 @@
-# For packaging/release: the Debian packages libcqdb1, libcqdb-dev and cqdb, by dpkg-deb. Before this file is read: files is the
+# For packaging/release: the Debian packages libcqdb0, libcqdb-dev and cqdb, by dpkg-deb. Before this file is read: files is the
 # folder of packaging/collect, work a folder for what is packed, out the folder of the release, version its version,
 # SOURCE_DATE_EPOCH its time; the working folder is the repository's root.
 
@@ -59,12 +59,12 @@ package() {
 }
 
 debian_packages() {
-    stage=$work/libcqdb1
-    put 644 $files/libcqdb.so.1 $libraries/libcqdb.so.1
+    stage=$work/libcqdb0
+    put 644 $files/libcqdb.so.0 $libraries/libcqdb.so.0
     mkdir -p "$stage/DEBIAN"
-    echo "libcqdb 1 libcqdb1 (>= $version)" >"$stage/DEBIAN/shlibs"
+    echo "libcqdb 0 libcqdb0 (>= $version)" >"$stage/DEBIAN/shlibs"
     echo "activate-noawait ldconfig" >"$stage/DEBIAN/triggers"
-    package libcqdb1 libs "$(depends $files/libcqdb.so.1)" "constant quark databases, proved: shared library" <<'END'
+    package libcqdb0 libs "$(depends $files/libcqdb.so.0)" "constant quark databases, proved: shared library" <<'END'
  A constant quark database maps names to ids and ids to names, in a file that
  is made once and then only read. Every function of this library is proved to
  give the answer of the format's rules, for all bytes of a file.
@@ -75,7 +75,7 @@ END
     stage=$work/libcqdb-dev
     put 644 $files/cqdb.h usr/include/cqdb.h
     put 644 $files/libcqdb_c.a $libraries/libcqdb_c.a
-    ln -s libcqdb.so.1 "$stage/$libraries/libcqdb.so"
+    ln -s libcqdb.so.0 "$stage/$libraries/libcqdb.so"
     sed "s#@PREFIX@#/usr#; s#@LIBDIR@#\${prefix}/${libraries#usr/}#" $files/cqdb.pc.in >"$work/cqdb.pc"
     put 644 "$work/cqdb.pc" $libraries/pkgconfig/cqdb.pc
     put_zipped $files/cqdb.3 usr/share/man/man3/cqdb.3.gz
@@ -83,7 +83,7 @@ END
     put 644 CHANGELOG.md usr/share/doc/libcqdb-dev/CHANGELOG.md
     local example
     for example in examples/c/*.c; do put 644 "$example" "usr/share/doc/libcqdb-dev/$example"; done
-    package libcqdb-dev libdevel "libcqdb1 (= $version)" "constant quark databases, proved: header, archive, manual" <<'END'
+    package libcqdb-dev libdevel "libcqdb0 (= $version)" "constant quark databases, proved: header, archive, manual" <<'END'
  A constant quark database maps names to ids and ids to names, in a file that
  is made once and then only read. Every function of this library is proved to
  give the answer of the format's rules, for all bytes of a file.

@@ -2,7 +2,7 @@
 # line for each libdir that was installed to, for ./uninstall.
 header=include/cqdb.h
 archive=$libdir/libcqdb_c.a
-shared=$libdir/libcqdb.so.1
+shared=$libdir/libcqdb.so.0
 link=$libdir/libcqdb.so
 package=$libdir/pkgconfig/cqdb.pc
 calls=share/man/man3/cqdb.3

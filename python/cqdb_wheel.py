@@ -14,7 +14,7 @@ from typing import Any, Dict, List, Optional, Tuple
 ROOT = pathlib.Path(__file__).resolve().parent.parent
 MODULE = ROOT / "python" / "cqdb"
 ARCHIVE = ROOT / "target" / "staticlib" / "libcqdb_c.a"
-SHARED = ROOT / "target" / "staticlib" / "libcqdb.so.1"
+SHARED = ROOT / "target" / "staticlib" / "libcqdb.so.0"
 PLATFORM = "linux_x86_64"
 Settings = Optional[Dict[str, Any]]
 
@@ -48,7 +48,7 @@ def build_wheel(wheel_directory: str, config_settings: Settings = None, metadata
         for name, content in files:
             # The same files make the same wheel, whenever it is made.
             entry = zipfile.ZipInfo(name, date_time=(1980, 1, 1, 0, 0, 0))
-            entry.external_attr = (0o100755 if name.endswith(".so.1") else 0o100644) << 16
+            entry.external_attr = (0o100755 if name.endswith(".so.0") else 0o100644) << 16
             entry.compress_type = zipfile.ZIP_DEFLATED
             out.writestr(entry, content)
     return wheel

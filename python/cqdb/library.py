@@ -9,7 +9,7 @@ from typing import Any, List, Tuple
 
 from cqdb.version import __version__
 
-FILE = "libcqdb.so.1"
+FILE = "libcqdb.so.0"
 VERSION = tuple(map(int, __version__.split(".")[:2]))
 """Major and minor of the version whose structs and functions stand below."""
 

@@ -86,7 +86,7 @@ class Loading(unittest.TestCase):
         return ran.stderr.splitlines()[-1]
 
     def test_a_library_that_is_not_there(self) -> None:
-        self.assertRegex(self.message("/no/such/libcqdb.so.1"), "ImportError: cqdb: cannot load /no/such/.*make-shared.*CQDB_LIBRARY")
+        self.assertRegex(self.message("/no/such/libcqdb.so.0"), "ImportError: cqdb: cannot load /no/such/.*make-shared.*CQDB_LIBRARY")
 
     def test_a_file_that_is_no_library(self) -> None:
         with tempfile.NamedTemporaryFile() as file:
