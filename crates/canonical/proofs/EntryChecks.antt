@@ -28,11 +28,11 @@ use Rattle.canonical.proofs.Concatenation.{getD-bucketsInPlace, length-
 -- ---- an entry in its table
 
 hide-at : (a : ℕ) (b : Bucket) → hide a b .at ≡ hidden a (b .at)
-hide-at a b = go (ltb (b .at) a)
+hide-at a b = same-offset (ltb (b .at) a)
   where
-    go : (t : Bool) → cond t b empty .at ≡ cond t (b .at) 0
-    go true = refl
-    go false = refl
+    same-offset : (t : Bool) → cond t b empty .at ≡ cond t (b .at) 0
+    same-offset true = refl
+    same-offset false = refl
 
 module _ (img : List ℕ) (b : Bucket) where
   -- its table, as it is read
@@ -53,11 +53,13 @@ module _ (img : List ℕ) (b : Bucket) where
     unfolding bucketTaken o n T
     taken-is =
         ap (λ (k : ℕ). o + 8 * k)
-        (sym (firstEmpty-ext (atOf (hideFrom (b .at) T)) (λ (k : ℕ). hidden (b .at) (offsetAt img o k)) n one n (start (b .hash) n) (mod-lt (b .hash / 256) some)))
+        (sym (firstEmpty-ext (atOf (hideFrom (b .at) T)) (λ (k : ℕ). hidden (b .at) (offsetAt img o k)) n one n (start (b .hash) n)
+        (mod-lt (b .hash / 256) some)))
       where
         one : (k : ℕ) → k < n → atOf (hideFrom (b .at) T) k ≡ hidden (b .at) (offsetAt img o k)
         one k h =
-            ap (λ (x : Bucket). x .at) (getD-hideFrom (b .at) T k ∙ ap (hide (b .at)) (getD-bucketsInPlace img o n k h)) ∙ hide-at (b .at) (bucketAt img (o + 8 * k))
+            ap (λ (x : Bucket). x .at) (getD-hideFrom (b .at) T k ∙ ap (hide (b .at)) (getD-bucketsInPlace img o n k h))
+            ∙ hide-at (b .at) (bucketAt img (o + 8 * k))
 
     read : getD T (putBucket n T b) empty ≡ bucketAt img (bucketTaken img (b .hash) (b .at))
     unfolding T o n
@@ -65,7 +67,8 @@ module _ (img : List ℕ) (b : Bucket) where
 
   pub bucket-facts : inItsBucket img (b .hash) (b .at) ≡ true
       → getD (bucketsInPlace img (tableAt img (tableOf (b .hash))) (bucketNumber img (tableOf (b .hash))))
-      (putBucket (bucketNumber img (tableOf (b .hash))) (bucketsInPlace img (tableAt img (tableOf (b .hash))) (bucketNumber img (tableOf (b .hash)))) b) empty ≡ b
+      (putBucket (bucketNumber img (tableOf (b .hash))) (bucketsInPlace img (tableAt img (tableOf (b .hash))) (bucketNumber img (tableOf (b .hash)))) b)
+      empty ≡ b
   unfolding inItsBucket T o n
   bucket-facts h =
       let s = bucketTaken img (b .hash) (b .at) in
@@ -73,7 +76,8 @@ module _ (img : List ℕ) (b : Bucket) where
       let q = eqb (word img s) (b .hash) in
       let r = eqb (word img (s + 4)) (b .at) in
       let pq = and-first (p && q) r h in
-      read (positive (and-first p q pq)) ∙ two (eqb-true (word img s) (b .hash) (and-second p q pq)) (eqb-true (word img (s + 4)) (b .at) (and-second (p && q) r h))
+      read (positive (and-first p q pq))
+      ∙ two (eqb-true (word img s) (b .hash) (and-second p q pq)) (eqb-true (word img (s + 4)) (b .at) (and-second (p && q) r h))
     where
       positive : not (eqb n 0) ≡ true → 0 < n
       positive t =
@@ -89,7 +93,8 @@ module _ (img : List ℕ) (b : Bucket) where
 
   pub bucket-checked : 0 < b .at
       → getD (bucketsInPlace img (tableAt img (tableOf (b .hash))) (bucketNumber img (tableOf (b .hash))))
-      (putBucket (bucketNumber img (tableOf (b .hash))) (bucketsInPlace img (tableAt img (tableOf (b .hash))) (bucketNumber img (tableOf (b .hash)))) b) empty ≡ b
+      (putBucket (bucketNumber img (tableOf (b .hash))) (bucketsInPlace img (tableAt img (tableOf (b .hash))) (bucketNumber img (tableOf (b .hash)))) b)
+      empty ≡ b
       → inItsBucket img (b .hash) (b .at) ≡ true
   unfolding inItsBucket T o n
   bucket-checked pos e =
@@ -121,12 +126,12 @@ module _ (img : List ℕ) (two : Bool) (o : ℕ) where
 pub to-table : (P : Placed → Type 0) (t : ℕ) (ps : List Placed) → All P ps → All (λ (p : Placed). P p × (tableOf (hashOf (p .entry .name)) ≡ t)) (ofTable t ps)
 unfolding ofTable filter
 to-table P t [] a = tt
-to-table P t (p ∷ ps) a = go (inTable t p) refl (to-table P t ps (a .1))
+to-table P t (p ∷ ps) a = with-first (inTable t p) refl (to-table P t ps (a .1))
   where
-    go : (b : Bool) → inTable t p ≡ b → All (λ (p : Placed). P p × (tableOf (hashOf (p .entry .name)) ≡ t)) (filter (inTable t) ps)
+    with-first : (b : Bool) → inTable t p ≡ b → All (λ (p : Placed). P p × (tableOf (hashOf (p .entry .name)) ≡ t)) (filter (inTable t) ps)
         → All (λ (p : Placed). P p × (tableOf (hashOf (p .entry .name)) ≡ t)) (cond b (p ∷ filter (inTable t) ps) (filter (inTable t) ps))
-    go true e rest = ((a .0, eqb-true (tableOf (hashOf (p .entry .name))) t e), rest)
-    go false e rest = rest
+    with-first true e rest = ((a .0, eqb-true (tableOf (hashOf (p .entry .name))) t e), rest)
+    with-first false e rest = rest
 
 pub from-tables : (Q : ℕ → Placed → Type 0) (ps : List Placed) → ((t : ℕ) → t < 256 → All (Q t) (ofTable t ps))
     → All (λ (p : Placed). Q (tableOf (hashOf (p .entry .name))) p) ps

@@ -18,29 +18,30 @@ use Rattle.image.proofs.Buckets.{length-probeSequence}
 use Rattle.lookup_laws.proofs.ProbeSequence.{probeSequence-at, place-of}
 use Rattle.canonical.specs.steps.HiddenBuckets.{countAtLeast, Rising, bucketOffsets, hide, hideFrom, putBucket, TableMatches}
 use Rattle.canonical.proofs.CountAtLeast.{countAtLeast-none, countAtLeast-set, countAtLeast-room, rising-less}
-use Rattle.canonical.proofs.HiddenBuckets.{hide-shows, hide-hides, hide-empty, getD-hideFrom, length-hideFrom, getD-bucketOffsets, length-bucketOffsets, hideFrom-is}
+use Rattle.canonical.proofs.HiddenBuckets.{hide-shows, hide-hides, hide-empty, getD-hideFrom, length-hideFrom, getD-bucketOffsets}
+use Rattle.canonical.proofs.HiddenBuckets.{length-bucketOffsets, hideFrom-is}
 
 -- ---- the first empty bucket of a search
 
 first-found : (at : ℕ → ℕ) (ks : List ℕ) (i : ℕ) → i < length ks → at (getD ks i 0) ≡ 0 → at (firstEmpty at ks) ≡ 0
 unfolding firstEmpty
 first-found at [] i h z = absurd (omega arith)
-first-found at (k ∷ ks) i h z = go (eqb (at k) 0) refl i h z (λ j l y. first-found at ks j l y)
+first-found at (k ∷ ks) i h z = found-from (eqb (at k) 0) refl i h z (λ j l y. first-found at ks j l y)
   where
-    go : (t : Bool) → eqb (at k) 0 ≡ t → (i : ℕ) → i < length (k ∷ ks) → at (getD (k ∷ ks) i 0) ≡ 0
+    found-from : (t : Bool) → eqb (at k) 0 ≡ t → (i : ℕ) → i < length (k ∷ ks) → at (getD (k ∷ ks) i 0) ≡ 0
         → ((j : ℕ) → j < length ks → at (getD ks j 0) ≡ 0 → at (firstEmpty at ks) ≡ 0) → at (cond t k (firstEmpty at ks)) ≡ 0
-    go true e i h z rest = eqb-true (at k) 0 e
-    go false e zero h z rest = absurd (eqb-false (at k) 0 e z)
-    go false e (suc i) h z rest = rest i (omega arith) z
+    found-from true e i h z rest = eqb-true (at k) 0 e
+    found-from false e zero h z rest = absurd (eqb-false (at k) 0 e z)
+    found-from false e (suc i) h z rest = rest i (omega arith) z
 
 pub first-below : (at : ℕ → ℕ) (ks : List ℕ) (n : ℕ) → 0 < n → ((i : ℕ) → i < length ks → getD ks i 0 < n) → firstEmpty at ks < n
 unfolding firstEmpty
 first-below at [] n p h = p
-first-below at (k ∷ ks) n p h = go (eqb (at k) 0) (first-below at ks n p (λ i l. h (suc i) (omega arith)))
+first-below at (k ∷ ks) n p h = either-below (eqb (at k) 0) (first-below at ks n p (λ i l. h (suc i) (omega arith)))
   where
-    go : (t : Bool) → firstEmpty at ks < n → cond t k (firstEmpty at ks) < n
-    go true rest = h 0 (omega arith)
-    go false rest = rest
+    either-below : (t : Bool) → firstEmpty at ks < n → cond t k (firstEmpty at ks) < n
+    either-below true rest = h 0 (omega arith)
+    either-below false rest = rest
 
 -- the buckets of a probe sequence
 pub order-inside : (h n : ℕ) → 0 < n → (i : ℕ) → i < length (probeSequence n n (start h n)) → getD (probeSequence n n (start h n)) i 0 < n
@@ -103,7 +104,8 @@ module _ (n : ℕ) (table : List Bucket) (m a : ℕ) (b : Bucket) (t : Inserted 
 
   pub hidden : (c : ℕ) → c ≤ b .at → hideFrom c (insert n table b) ≡ hideFrom c table
   hidden c h =
-      hideFrom-is c (insert n table b) (hideFrom c table) (length-hideFrom c table ∙ sym (length-insert n table b)) (λ k l. each k ∙ sym (getD-hideFrom c table k))
+      hideFrom-is c (insert n table b) (hideFrom c table) (length-hideFrom c table ∙ sym (length-insert n table b))
+      (λ k l. each k ∙ sym (getD-hideFrom c table k))
     where
       each : (k : ℕ) → hide c (getD (insert n table b) k empty) ≡ hide c (getD table k empty)
       each k =
@@ -135,7 +137,8 @@ module _ (n : ℕ) (table : List Bucket) (m a : ℕ) (b : Bucket) (t : Inserted 
       used : countAtLeast 1 (bucketOffsets (insert n table b)) ≡ suc m
       used =
           ap (countAtLeast 1) bucketOffsets-insert
-          ∙ countAtLeast-set (bucketOffsets table) slot (b .at) (rw (length-bucketOffsets table) there) (getD-bucketOffsets table slot ∙ slot-empty) (omega arith)
+          ∙ countAtLeast-set (bucketOffsets table) slot (b .at) (rw (length-bucketOffsets table) there) (getD-bucketOffsets table slot ∙ slot-empty)
+          (omega arith)
           ∙ one (countAtLeast 1 (bucketOffsets table)) (t .used)
         where
           one : (x : ℕ) → x ≡ m → x + 1 ≡ suc m
@@ -149,7 +152,8 @@ module _ (n : ℕ) (table : List Bucket) (m a : ℕ) (b : Bucket) (t : Inserted 
           ]
 
   -- the entry in a later table in which no bucket below its offset or at it has changed
-  pub kept-later : (later : List Bucket) → hideFrom (b .at) later ≡ hideFrom (b .at) table → hideFrom (suc (b .at)) later ≡ hideFrom (suc (b .at)) (insert n table b)
+  pub kept-later : (later : List Bucket) → hideFrom (b .at) later ≡ hideFrom (b .at) table
+      → hideFrom (suc (b .at)) later ≡ hideFrom (suc (b .at)) (insert n table b)
       → getD later (putBucket n later b) empty ≡ b
   kept-later later p q =
       ap (λ (k : ℕ). getD later k empty) same-place ∙ shown (decLt (atOf later slot) (suc (b .at)))

@@ -1,5 +1,5 @@
 -- The decision is the rule, and what holds of canonical images. Assumes nothing.
-use Prim.Native.Nat.{ℕ, _+_, _-_, _≤_, _<_}
+use Prim.Native.Nat.{ℕ, _-_, _≤_, _<_}
 use native.Mathlib.Omega.{arith}
 use mathlib.Core.Path.{_≡_, refl, sym, ap, _∙_}
 use mathlib.Core.Bool.{Bool, true, false}
@@ -30,7 +30,8 @@ use Rattle.canonical.specs.Canonical.{Canonical, counted, putsIn, modeIn
 use Rattle.canonical.specs.theorems.CanonicalImages.{CanonicalImage, CanonicalHolds}
 use Rattle.canonical.proofs.ReadBack.{names-bytes, made-puts, made-mode, canonical-yes, canonical-only}
 use Rattle.canonical.proofs.ChecksHold.{canonical-checked}
-use Rattle.canonical.proofs.ListImages.{words, list-made, list-puts, list-mode, lists-injective, accepted-all, made-accepted, made-closes, made-size, made-room}
+use Rattle.canonical.proofs.ListImages.{words, list-made, list-puts, list-mode, lists-injective, accepted-all, made-accepted, made-closes, made-size}
+use Rattle.canonical.proofs.ListImages.{made-room}
 
 -- ---- each entry's name is found
 
@@ -47,7 +48,8 @@ names-first done (e ∷ es) = (own, rw (append-assoc done (e ∷ []) es) at (nam
     own =
         let test = hasName (e .name) in
         let s = first-some (ofName (e .name) done) (ofName (e .name) es) e in
-        (s .0, ap firstId (filter-append test done (e ∷ es) ∙ ap (λ (l : List Entry). ofName (e .name) done ++ l) (filter-yes test e es (same-self (e .name)))) ∙ s .1)
+        let kept = ap (λ (l : List Entry). ofName (e .name) done ++ l) (filter-yes test e es (same-self (e .name))) in
+        (s .0, ap firstId (filter-append test done (e ∷ es) ∙ kept) ∙ s .1)
 
 -- ---- a canonical image, and longer bytes
 
@@ -86,11 +88,11 @@ module _ (img : List ℕ) (m : Made img) where
       rw (all, closed) at (list-read (m .mode) On img (made-room img m img room) (putAll (m .puts)) (words (m .mode) (m .puts) (m .each)))
 
   made-agrees : readingsAgree img ≡ true
-  made-agrees = sym (ap readingsAgree (made-closes img m img room)) ∙ go (m .mode) (words (m .mode) (m .puts) (m .each))
+  made-agrees = sym (ap readingsAgree (made-closes img m img room)) ∙ agrees-in (m .mode) (words (m .mode) (m .puts) (m .each))
     where
-      go : (mode : Mode) → WordIds mode (putAll (m .puts)) → readingsAgree (imageOf mode On img (putAll (m .puts))) ≡ true
-      go Twoway w = readings .two-way On img (putAll (m .puts)) (made-room img m img room)
-      go Oneway w = readings .one-way On img (putAll (m .puts)) (made-room img m img room) w
+      agrees-in : (mode : Mode) → WordIds mode (putAll (m .puts)) → readingsAgree (imageOf mode On img (putAll (m .puts))) ≡ true
+      agrees-in Twoway w = readings .two-way On img (putAll (m .puts)) (made-room img m img room)
+      agrees-in Oneway w = readings .one-way On img (putAll (m .puts)) (made-room img m img room) w
 
   made-homes : (id : ℕ) (name : List ℕ) → nameGiven img id ≡ some name → home img id ≡ true
   made-homes id name h = read .id-home id ∙ ap isNamed (sym (read .id-gives id) ∙ h)
