@@ -176,3 +176,9 @@ def load(path: str) -> ctypes.CDLL:
 
 calls: Any = load(place())
 """The functions."""
+
+# To convert declared arguments takes as long as all else of a lookup's call. So a lookup of a name below 2^31 bytes has a second form
+# whose arguments ctypes takes as they are: bytes or an array, the image's length as a c_size_t, the name, and a number as a C int.
+SHORT = 2**31 - 1
+short_to_id: Any = calls["cqdb_to_id"]
+short_to_id.restype = IdAnswer
