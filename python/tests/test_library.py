@@ -36,6 +36,8 @@ STRUCTS = {
     "cqdb_date": library.Date,
     "cqdb_window": library.Window,
     "cqdb_on_answer": library.OnAnswer,
+    "cqdb_preflight_answer": library.PreflightAnswer,
+    "cqdb_preflight_dates_answer": library.PreflightDatesAnswer,
 }
 TYPES = {
     ctypes.c_uint8: "uint8_t",
