@@ -22,6 +22,7 @@ from cqdb.check import Check
 from cqdb.dates import Window
 from cqdb.ids import Ids
 from cqdb.one_to_one import Mismatch, OneToOne
+from cqdb.preflight import Preflight, preflight
 from cqdb.refusal import CQDBError, Refusal
 from cqdb.sheet import Sheet
 from cqdb.version import __version__
@@ -37,10 +38,12 @@ __all__ = [
     "Ids",
     "Mismatch",
     "OneToOne",
+    "Preflight",
     "Refusal",
     "Sheet",
     "Window",
     "Writer",
     "__version__",
     "build",
+    "preflight",
 ]

@@ -1,6 +1,7 @@
 """Reading an image."""
 from __future__ import annotations
 
+import ctypes
 import os
 from array import array
 from collections.abc import Mapping
@@ -12,7 +13,7 @@ from cqdb.check import Check, checked
 from cqdb.dates import Window, day, lent_windows
 from cqdb.entries import first_puts, id_at, name_at
 from cqdb.ids import Ids
-from cqdb.library import calls
+from cqdb.library import SHORT, calls, short_to_id
 from cqdb.memory import Image, Path, mapped
 from cqdb.names import NAMES, Bytes, Name, Text, id_number, plain
 from cqdb.one_to_one import OneToOne, first_mismatch
@@ -81,6 +82,7 @@ class Catalogue(Mapping[str, int]):
         accept(answer.refusal, where)
         self._image = image
         self._num: int = answer.num
+        self._length = ctypes.c_size_t(len(image))
         self._text = text
         self._path: Optional[str] = None
         self._first_puts: Optional[array] = None
@@ -144,7 +146,10 @@ class Catalogue(Mapping[str, int]):
         except UnicodeError:
             # No bytes are this text, so no name is.
             return None
-        answer = calls.cqdb_to_id(image, len(image), wanted, len(wanted))
+        if len(wanted) <= SHORT:
+            answer = short_to_id(image, self._length, wanted, len(wanted))
+        else:
+            answer = calls.cqdb_to_id(image, len(image), wanted, len(wanted))
         return answer.id if answer.found else None
 
     def __contains__(self, name: object) -> bool:

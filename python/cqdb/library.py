@@ -97,6 +97,23 @@ class OnAnswer(Structure):
     _fields_ = [("refusal", c_uint32), ("found", c_uint32), ("len", c_uint32), ("start", c_uint64)]
 
 
+class PreflightAnswer(Structure):
+    _fields_ = [
+        ("question", c_uint32),
+        ("refusal", c_uint32),
+        ("id", c_uint32),
+        ("place", c_uint64),
+        ("other", c_uint64),
+        ("compared", c_uint64),
+        ("added", c_uint64),
+        ("unsighted", c_uint64),
+    ]
+
+
+class PreflightDatesAnswer(Structure):
+    _fields_ = [("question", c_uint32), ("refusal", c_uint32), ("place", c_uint64)]
+
+
 Counts = c_uint32 * 256
 
 # Bytes and lists are lent as an address and a length.
@@ -114,6 +131,9 @@ _FUNCTIONS: List[Tuple[str, Any, List[Any]]] = [
     ("cqdb_next_change", ChangeAnswer, _LENT + _LENT + [c_uint64]),
     ("cqdb_moved", MovedAnswer, _LENT + _LENT + [c_uint32]),
     ("cqdb_name_on", OnAnswer, _LENT + [c_uint32, Date] + _LENT),
+    ("cqdb_preflight_parts", PreflightAnswer, _LENT * 5),
+    ("cqdb_preflight_first_parts", PreflightAnswer, _LENT * 3),
+    ("cqdb_preflight_dates_words", PreflightDatesAnswer, _LENT * 2 + [Date, Date]),
     ("cqdb_round_words", RoundAnswer, _LENT * 4),
     ("cqdb_name_round_words", c_uint32, _LENT * 3),
     ("cqdb_begin_parts", c_uint32, [c_uint32, c_uint32, c_void_p, c_void_p, c_void_p] + _LENT),
@@ -170,3 +190,9 @@ def load(path: str) -> ctypes.CDLL:
 
 calls: Any = load(place())
 """The functions."""
+
+# To convert declared arguments takes as long as all else of a lookup's call. So a lookup of a name below 2^31 bytes has a second form
+# whose arguments ctypes takes as they are: bytes or an array, the image's length as a c_size_t, the name, and a number as a C int.
+SHORT = 2**31 - 1
+short_to_id: Any = calls["cqdb_to_id"]
+short_to_id.restype = IdAnswer

@@ -5,9 +5,17 @@ import pathlib
 import tempfile
 import threading
 import unittest
+from typing import Any
+from unittest import mock
 
 import cqdb
+from cqdb.library import short_to_id
 from tests.images import PRISMS, image_of, many, names_by_id
+
+
+def short_to_id_of_short_names(*given: Any) -> Any:
+    assert given[3] <= 4
+    return short_to_id(*given)
 
 
 class Reading(unittest.TestCase):
@@ -20,6 +28,14 @@ class Reading(unittest.TestCase):
                 self.assertEqual(catalogue.name_bytes(id), name)
                 self.assertIn(name, catalogue)
                 self.assertIn(id, catalogue.ids)
+
+    def test_both_forms_of_a_lookup(self) -> None:
+        catalogue = cqdb.Catalogue(image_of(PRISMS + [(b"x" * 100_000, 9)]))
+        asked = [name for name, _ in PRISMS] + [b"x" * 100_000, b"nobody", b"x" * 99_999]
+        answers = [catalogue.get(name) for name in asked]
+        with mock.patch("cqdb.catalogue.SHORT", 4), mock.patch("cqdb.catalogue.short_to_id", short_to_id_of_short_names):
+            self.assertEqual([catalogue.get(name) for name in asked], answers)
+        self.assertEqual(answers, [id for _, id in PRISMS] + [9, None, None])
 
     def test_rounds_are_the_single_answers(self) -> None:
         entries = many(2_000)

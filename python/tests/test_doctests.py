@@ -17,7 +17,7 @@ def load_tests(loader: unittest.TestLoader, tests: unittest.TestSuite, pattern: 
     return tests
 
 
-WITH_EXAMPLES = {"__init__", "build", "bundle", "catalogue", "ids", "memory", "names", "refusal", "sheet", "writer"}
+WITH_EXAMPLES = {"__init__", "build", "bundle", "catalogue", "ids", "memory", "names", "preflight", "refusal", "sheet", "writer"}
 
 
 class Modules(unittest.TestCase):

@@ -34,6 +34,8 @@ STRUCTS = {
     "cqdb_date": library.Date,
     "cqdb_window": library.Window,
     "cqdb_on_answer": library.OnAnswer,
+    "cqdb_preflight_answer": library.PreflightAnswer,
+    "cqdb_preflight_dates_answer": library.PreflightDatesAnswer,
 }
 TYPES = {
     ctypes.c_uint8: "uint8_t",
@@ -58,6 +60,14 @@ class Header(unittest.TestCase):
             fields = re.findall(r"^ *(\w+) (\w+)(\[\d+\])?;", found.group(1), re.MULTILINE)
             expected = [(declared(kind)[0], field, declared(kind)[1]) for field, kind in struct._fields_]
             self.assertEqual(expected, fields, name)
+
+    def test_a_record_is_the_beginning_of_a_writer(self) -> None:
+        found = re.search(r"typedef struct \{([^}]*)\} cqdb_writer;", HEADER)
+        assert found is not None
+        fields = re.findall(r"^ *(\w+) (\w+)(\[\d+\])?;", found.group(1), re.MULTILINE)
+        record = [(TYPES[kind], field, "") for field, kind in library.Record._fields_]
+        self.assertEqual(record + [("uint32_t", "counts", f"[{library.Counts._length_}]")], fields)
+        self.assertEqual((library.Record.back.offset, library.Record.length.offset, library.Record.end.offset), (12, 16, 24))
 
     def test_functions(self) -> None:
         plain = re.sub(r"/\*.*?\*/", "", HEADER, flags=re.DOTALL)

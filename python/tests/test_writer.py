@@ -190,7 +190,11 @@ class Files(unittest.TestCase):
 
     def test_a_folder_that_may_not_be_read_is_no_failure(self) -> None:
         opened = os.open
-        with mock.patch("os.open", lambda path, flags, *rest: opened(path, flags, *rest) if flags & os.O_CREAT else opened("/no such", flags)):
+
+        def no_folder(path: bytes, flags: int, *rest: int) -> int:
+            return opened(path if flags & os.O_CREAT else "/no such", flags, *rest)
+
+        with mock.patch("os.open", no_folder):
             self.assertEqual(self.writer.write(self.path), len(self.writer.close()))
         self.assertEqual(self.path.read_bytes(), self.writer.close())
 
