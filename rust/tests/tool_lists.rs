@@ -178,10 +178,19 @@ fn names_that_look_like_another() {
         ("NORTHWALL", "north wall"),
         ("Schleuse Süd", "SCHLEUSE SÜD"),
         ("Straße", "straße"),
+        (
+            "a name of more than sixty-four letters, so that its letters are hashed in parts, end",
+            "A name of more than sixty-four letters, so that its letters are hashed in parts, END",
+        ),
     ] {
         let list = format!("1 {one}\n2 crane\n7 {other}\n");
-        let told =
-            format!("standard input, line 3: the name {other:?} looks like {one:?} of line 1: --alike takes it\n");
+        // A message shows 40 letters of a name.
+        let shown = |name: &str| match name.char_indices().nth(40) {
+            Some((end, _)) => format!("{:?}..", &name[..end]),
+            None => format!("{name:?}"),
+        };
+        let (looks, like) = (shown(other), shown(one));
+        let told = format!("standard input, line 3: the name {looks} looks like {like} of line 1: --alike takes it\n");
         folder.with(&list, &["make", "image"]).gives(2).prints("").tells(&format!("cqdb: make: {told}"));
         folder.with(&list, &["make", "--blank", "image"]).gives(2);
         folder.with(&list, &["make", "--alike", "image"]).gives(0);

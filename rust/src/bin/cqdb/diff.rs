@@ -1,5 +1,5 @@
 //! `cqdb diff`: what two images, or the images of two bundles, say differently.
-use std::collections::BTreeMap;
+use std::collections::{BTreeMap, BTreeSet};
 
 use cqdb::{MemoryWriter, CQDB};
 
@@ -51,33 +51,41 @@ position comes first in each line. An image that only one of them has is told.
 fn run(args: Args) -> Outcome {
     args.not_both(&[&JSON, &ZERO])?;
     let (old, new) = (Source::open(args.path(0))?, Source::open(args.path(1))?);
+    let mut printing = Printing { args: &args, out: Output::new(), position: None };
+    let alike = if args.has(&ALL) {
+        bundles(&mut printing, by_position(&old)?, by_position(&new)?)?
+    } else {
+        compared(&mut printing, &(old.image()?, old.name()), &(new.image()?, new.name()))?
+    };
+    printing.out.flush()?;
+    [&old, &new].into_iter().try_for_each(Source::has_stayed)?;
+    Ok(alike.into())
+}
+
+/// Compares images by position. One that is not there is compared as an empty one, and told.
+fn bundles(printing: &mut Printing, old: Positions, new: Positions) -> Result<bool, Failure> {
     let empty = MemoryWriter::new().finish().map_err(files::refused)?;
     let empty = CQDB::new(&empty).map_err(|error| Failure::new(files::in_words(&error)))?;
-    let mut printing = Printing { args: &args, out: Output::new(), position: None };
-    if !args.has(&ALL) {
-        let (old, new) = ((old.image()?, old.name()), (new.image()?, new.name()));
-        let alike = compared(&mut printing, &old, &new)?;
-        return printing.out.finish(alike);
-    }
-    let (old, new) = (by_position(&old)?, by_position(&new)?);
-    let mut images = Counts::default();
-    let positions: BTreeMap<u64, ()> = old.keys().chain(new.keys()).map(|position| (*position, ())).collect();
     let absent = (empty, "an image that is not there".to_string());
-    for position in positions.into_keys() {
+    let mut images = Counts::default();
+    let positions: BTreeSet<u64> = old.keys().chain(new.keys()).copied().collect();
+    for position in positions {
         let (before, after) = (old.get(&position), new.get(&position));
         printing.position = Some(position);
         printing.image(before.is_some(), after.is_some())?;
-        let alike = compared(&mut printing, before.unwrap_or(&absent), after.unwrap_or(&absent))?;
+        let alike = compared(printing, before.unwrap_or(&absent), after.unwrap_or(&absent))?;
         images.note(before.is_some(), after.is_some(), alike);
     }
     printing.position = None;
     printing.images(&images)?;
-    printing.out.finish(!images.differ())
+    Ok(!images.differ())
 }
 
+/// An image, and what messages call it.
 type Named<'a> = (CQDB<'a>, String);
+type Positions<'a> = BTreeMap<u64, Named<'a>>;
 
-fn by_position(source: &Source) -> Result<BTreeMap<u64, Named<'_>>, Failure> {
+fn by_position(source: &Source) -> Result<Positions<'_>, Failure> {
     let name = source.name();
     let named = |(position, db)| (position, (db, format!("{name}:{position}")));
     Ok(source.images()?.into_iter().map(named).collect())
