@@ -162,6 +162,7 @@ fn many_equal_names() {
     };
     folder.with(&list, &["make", "--repeats", "image"]).gives(0).tells(&told("make"));
     folder.cqdb(&["check", "image"]).gives(1).tells(&told("check"));
+    folder.cqdb(&["diff", "image", "image"]).gives(0).tells(&told("diff").repeat(2));
     let list: String = (0..100_000).map(|id| format!("{id} crane {id}\n")).collect();
     folder.with(&list, &["make", "--repeats", "image"]).gives(0).tells("");
     folder.cqdb(&["check", "image"]).gives(0).tells("");
