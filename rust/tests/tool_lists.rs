@@ -68,21 +68,22 @@ fn other_lists_that_are_cut() {
     }
 }
 
-/// A command that has no such option does not offer it.
+/// The option is offered where the command has it.
 #[test]
-fn a_cut_list_of_a_command_that_does_not_take_it() {
+fn a_cut_round_of_a_report() {
     let folder = Folder::new();
     folder.image("image", "1 crane\n");
     folder.with("wall 1\n", &["sheet", "make", "sheet"]).gives(0);
     folder.write("pairs", "2 1\n");
     folder.write("round", "1\n2");
-    let words = ["preflight", "--sheet", "sheet", "--pairs", "pairs", "--round", "round", "image"];
     let help = String::from_utf8(folder.cqdb(&["preflight", "--help"]).gives(0).out).unwrap();
-    let words =
-        if help.contains("--first") { [&["preflight", "--first"], &words[1..]].concat() } else { words.to_vec() };
-    assert!(!help.contains("--incomplete"));
-    let told = "cqdb: preflight: round, line 2: the list ends without a line feed behind \"2\", so it may be cut\n";
-    folder.cqdb(&words).gives(2).prints("").tells(told);
+    let first = if help.contains("--first") { &["--first"][..] } else { &[] };
+    let words = ["--sheet", "sheet", "--pairs", "pairs", "--round", "round", "image"];
+    let ran = folder.cqdb(&[&["preflight"], first, &words].concat()).gives(2).prints("");
+    let option = if help.contains("--incomplete") { ": --incomplete takes it" } else { "" };
+    ran.tells(&format!(
+        "cqdb: preflight: round, line 2: the list ends without a line feed behind \"2\", so it may be cut{option}\n"
+    ));
 }
 
 /// A list that another program writes to while it is read is of two states.
