@@ -76,6 +76,15 @@ fn repeated_names_and_ids() {
             + &counts([2, 2, 0, 0], [2, 0, 0, 0]);
         folder.cqdb(&[options, &["old", "new"]].concat()).gives(1).prints(printed);
     }
+    // One of two ids of a name gets another name; then the name is found under the other of the two.
+    make("old", "5 crane\n9 crane\n");
+    make("new", "5 crane\n9 mole\n");
+    let printed = "- 9 crane\n+ 9 mole\n> crane is still 5\n".to_string() + &counts([2, 1, 0, 0], [2, 0, 1, 0]);
+    folder.cqdb(&["diff", "old", "new"]).gives(1).prints(printed);
+    make("new", "9 crane\n9 mole\n");
+    let printed = "- 5 crane\n> crane is now 9\n- 9 crane\n+ 9 mole\n> crane is now 9\n".to_string()
+        + &counts([2, 1, 0, 1], [2, 1, 1, 0]);
+    folder.cqdb(&["diff", "old", "new"]).gives(1).prints(printed);
     // A name that no id has any longer is found still, or not.
     make("old", "0 A\n0 B\n1 C\n");
     make("new", "0 B\n1 C\n1 D\n1 C\n");
@@ -121,8 +130,8 @@ fn objects_of_json() {
     folder.with(b"1 caf\xe9\n2 A\n".as_slice(), &["make", "one"]).gives(0);
     folder.image("other", "1 A\n");
     let printed =
-        "{\"id\":1,\"old\":\"caf\u{fffd}\",\"old_hex\":\"636166e9\",\"new\":\"A\",\"now\":null,\"now_name_of\":null}\n\
-                   {\"id\":2,\"old\":\"A\",\"new\":null,\"now\":1,\"now_name_of\":1}\n\
+        "{\"id\":1,\"old\":\"caf\u{fffd}\",\"old_hex\":\"636166e9\",\"new\":\"A\",\"was\":1,\"now\":null,\"now_name_of\":null}\n\
+                   {\"id\":2,\"old\":\"A\",\"new\":null,\"was\":2,\"now\":1,\"now_name_of\":1}\n\
                    {\"name\":\"caf\u{fffd}\",\"hex\":\"636166e9\",\"old\":1,\"new\":null}\n\
                    {\"name\":\"A\",\"old\":2,\"new\":1}\n\
                    {\"ids\":{\"compared\":2,\"changed\":1,\"new\":0,\"gone\":1},\
@@ -149,7 +158,7 @@ fn bundles_by_position() {
     ran.prints(same(&(third + "= images 3 compared, 0 changed, 1 new, 0 gone\n")));
     folder.image("more", "7 gate\n");
     folder.cqdb(&["bundle", "append", "third", "more"]).gives(0);
-    let json = "{\"position\":0,\"id\":7,\"old\":\"gate\",\"new\":null,\"now\":null,\"now_name_of\":null}\n\
+    let json = "{\"position\":0,\"id\":7,\"old\":\"gate\",\"new\":null,\"was\":7,\"now\":null,\"now_name_of\":null}\n\
                 {\"position\":0,\"name\":\"gate\",\"old\":7,\"new\":null}\n\
                 {\"position\":0,\"ids\":{\"compared\":1,\"changed\":0,\"new\":0,\"gone\":1},\
                 \"names\":{\"compared\":1,\"changed\":0,\"new\":0,\"gone\":1}}\n\

@@ -68,21 +68,22 @@ fn other_lists_that_are_cut() {
     }
 }
 
-/// A command that has no such option does not offer it.
+/// The option is offered where the command has it.
 #[test]
-fn a_cut_list_of_a_command_that_does_not_take_it() {
+fn a_cut_round_of_a_report() {
     let folder = Folder::new();
     folder.image("image", "1 crane\n");
     folder.with("wall 1\n", &["sheet", "make", "sheet"]).gives(0);
     folder.write("pairs", "2 1\n");
     folder.write("round", "1\n2");
-    let words = ["preflight", "--sheet", "sheet", "--pairs", "pairs", "--round", "round", "image"];
     let help = String::from_utf8(folder.cqdb(&["preflight", "--help"]).gives(0).out).unwrap();
-    let words =
-        if help.contains("--first") { [&["preflight", "--first"], &words[1..]].concat() } else { words.to_vec() };
-    assert!(!help.contains("--incomplete"));
-    let told = "cqdb: preflight: round, line 2: the list ends without a line feed behind \"2\", so it may be cut\n";
-    folder.cqdb(&words).gives(2).prints("").tells(told);
+    let first = if help.contains("--first") { &["--first"][..] } else { &[] };
+    let words = ["--sheet", "sheet", "--pairs", "pairs", "--round", "round", "image"];
+    let ran = folder.cqdb(&[&["preflight"], first, &words].concat()).gives(2).prints("");
+    let option = if help.contains("--incomplete") { ": --incomplete takes it" } else { "" };
+    ran.tells(&format!(
+        "cqdb: preflight: round, line 2: the list ends without a line feed behind \"2\", so it may be cut{option}\n"
+    ));
 }
 
 /// A list that another program writes to while it is read is of two states.
@@ -178,10 +179,19 @@ fn names_that_look_like_another() {
         ("NORTHWALL", "north wall"),
         ("Schleuse Süd", "SCHLEUSE SÜD"),
         ("Straße", "straße"),
+        (
+            "a name of more than sixty-four letters, so that its letters are hashed in parts, end",
+            "A name of more than sixty-four letters, so that its letters are hashed in parts, END",
+        ),
     ] {
         let list = format!("1 {one}\n2 crane\n7 {other}\n");
-        let told =
-            format!("standard input, line 3: the name {other:?} looks like {one:?} of line 1: --alike takes it\n");
+        // A message shows 40 letters of a name.
+        let shown = |name: &str| match name.char_indices().nth(40) {
+            Some((end, _)) => format!("{:?}..", &name[..end]),
+            None => format!("{name:?}"),
+        };
+        let (looks, like) = (shown(other), shown(one));
+        let told = format!("standard input, line 3: the name {looks} looks like {like} of line 1: --alike takes it\n");
         folder.with(&list, &["make", "image"]).gives(2).prints("").tells(&format!("cqdb: make: {told}"));
         folder.with(&list, &["make", "--blank", "image"]).gives(2);
         folder.with(&list, &["make", "--alike", "image"]).gives(0);

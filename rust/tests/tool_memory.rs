@@ -56,8 +56,9 @@ fn without_memory() {
     }
     assert!(folder.read("image") == old && folder.files() == ["image"]);
     // A name that is nearly as large as the memory is printed without a copy.
-    let large =
-        folder.shell("(printf '7 '; head -c 60000000 /dev/zero | tr '\\0' x; echo) | \"$CQDB\" make large").gives(0);
+    let large = folder
+        .shell("(printf '7 '; head -c 60000000 /dev/zero | tr '\\0' x; echo) | \"$CQDB\" make --alike large")
+        .gives(0);
     large.prints("large: 1 entry, 60002129 bytes\n");
     for (command, bytes) in [
         ("name large 7", 60_000_003),
@@ -120,6 +121,34 @@ fn a_file_that_becomes_shorter() {
     assert_eq!(String::from_utf8_lossy(&output.stderr), "cqdb: a file became shorter while it was read\n");
 }
 
+/// An image that another program writes to while it is asked may have answered from two states.
+#[test]
+fn a_file_that_changes() {
+    let folder = Folder::new();
+    folder.image("image", "7 crane\n");
+    for command in ["name", "home", "ids"] {
+        let mut child = Command::new(TOOL)
+            .args([command, "image"])
+            .current_dir(&folder.0)
+            .stdin(Stdio::piped())
+            .stdout(Stdio::null())
+            .stderr(Stdio::piped())
+            .spawn()
+            .unwrap();
+        let mut input = child.stdin.take().unwrap();
+        let question: &[u8] = if command == "ids" { b"crane\n" } else { b"7\n" };
+        // The first round of 512 is answered, so the file is open.
+        input.write_all(&question.repeat(600)).unwrap();
+        std::thread::sleep(std::time::Duration::from_millis(300));
+        OpenOptions::new().append(true).open(folder.0.join("image")).unwrap().write_all(b"\0").unwrap();
+        drop(input);
+        let output = child.wait_with_output().unwrap();
+        assert_eq!(output.status.code(), Some(2));
+        let told = format!("cqdb: {command}: image changed while it was read: its size or time is another\n");
+        assert_eq!(String::from_utf8_lossy(&output.stderr), told);
+    }
+}
+
 /// Names that are all equal take time that grows with the square of their number: that is said.
 #[test]
 fn many_equal_names() {
@@ -133,6 +162,7 @@ fn many_equal_names() {
     };
     folder.with(&list, &["make", "--repeats", "image"]).gives(0).tells(&told("make"));
     folder.cqdb(&["check", "image"]).gives(1).tells(&told("check"));
+    folder.cqdb(&["diff", "image", "image"]).gives(0).tells(&told("diff").repeat(2));
     let list: String = (0..100_000).map(|id| format!("{id} crane {id}\n")).collect();
     folder.with(&list, &["make", "--repeats", "image"]).gives(0).tells("");
     folder.cqdb(&["check", "image"]).gives(0).tells("");

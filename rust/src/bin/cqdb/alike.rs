@@ -106,11 +106,25 @@ impl Names {
         &self.bytes[start..self.ends[place]]
     }
 
+    /// The hash of what names that look alike have in common.
+    fn hash(&self, name: &[u8]) -> u64 {
+        let mut hasher = self.hashes.build_hasher();
+        // Some letters at once are hashed faster than each alone.
+        let (mut part, mut filled) = ([0; 64], 0);
+        for letter in folded(name) {
+            filled += letter.encode_utf8(&mut part[filled..]).len();
+            if filled > 60 {
+                hasher.write(&part[..filled]);
+                filled = 0;
+            }
+        }
+        hasher.write(&part[..filled]);
+        hasher.finish()
+    }
+
     /// The number of the name's look: that of the name that is there and looks like it, or else one that is free.
     pub fn number(&self, name: &[u8]) -> u64 {
-        let mut hasher = self.hashes.build_hasher();
-        folded(name).for_each(|letter| hasher.write_u32(letter as u32));
-        let mut number = hasher.finish();
+        let mut number = self.hash(name);
         while self.places.get(&number).is_some_and(|place| !folded(self.name(*place)).eq(folded(name))) {
             number = number.wrapping_add(1);
         }

@@ -45,11 +45,12 @@ fn refused(path: &Path, refusal: Refusal) -> Failure {
 /// Puts images behind those of a bundle; standard output has none before.
 fn append(args: &Args) -> Outcome {
     let path = args.path(1);
-    let images = (2..args.count()).map(|at| Source::open(args.path(at))).collect::<Result<Vec<_>, Failure>>()?;
+    let sources = (2..args.count()).map(|at| Source::open(args.path(at))).collect::<Result<Vec<_>, Failure>>()?;
     let images =
-        images.iter().map(|image| Ok((image.name(), one_image(image)?))).collect::<Result<Vec<_>, Failure>>()?;
+        sources.iter().map(|image| Ok((image.name(), one_image(image)?))).collect::<Result<Vec<_>, Failure>>()?;
     if path == Path::new("-") {
         let (file, _) = joined(path, &[], &images)?;
+        sources.iter().try_for_each(Source::has_stayed)?;
         let mut out = Output::new();
         out.bytes(&file)?;
         return out.finish(Answer::Yes);
@@ -58,6 +59,7 @@ fn append(args: &Args) -> Outcome {
     let old = locked.bytes()?;
     let before = Bundle::new(&old).count().map_err(|refusal| refused(path, refusal))?;
     let (file, after) = joined(path, &old, &images)?;
+    sources.iter().try_for_each(Source::has_stayed)?;
     let images = outcome::count(after, "image", "images");
     locked.replace(&file, &format!("{}: {images}, {} bytes\n", path.display(), file.len()))?;
     if before == 1 {

@@ -31,7 +31,9 @@ fn run(args: Args) -> Outcome {
     let source = Source::open(args.path(0))?;
     let mut out = Output::new();
     let all = questions(&source, &mut out, COMMAND.name)?.is_some_and(|(_, all)| all);
-    out.finish(all)
+    out.flush()?;
+    source.has_stayed()?;
+    Ok(all.into())
 }
 
 /// Prints a line for each question, and gives the image with the answer whether all were yes; none where it does not

@@ -1,5 +1,5 @@
 //! `cqdb diff`: what two images, or the images of two bundles, say differently.
-use std::collections::BTreeMap;
+use std::collections::{BTreeMap, BTreeSet};
 
 use cqdb::{MemoryWriter, CQDB};
 
@@ -9,6 +9,7 @@ use crate::files::{self, Source};
 use crate::json::{self, JSON};
 use crate::list;
 use crate::outcome::{Failure, Outcome, Output};
+use crate::quadratic;
 
 const ANY: Opt = Opt::plain("--any", "compare images too that are one-way or not canonical, as far as they go");
 const SWAPPED: Opt = Opt::plain("--swapped", "only the ids and names whose old name or id is another's now");
@@ -23,9 +24,10 @@ OLD: a line '- ID NAME' with the old name, where there was one, and a line
 '+ ID NAME' with the new one, where there is one. A line with '>' says where the
 old name is now:
 
-  > NAME is now ID              'cqdb id' finds it under another id
-  > NAME is now the name of ID  'cqdb name' gives it for another id
-  > NAME is still ID            'cqdb id' finds it under this id, as before
+  > NAME is now ID              'cqdb id' gives this ID for it, and gave another
+  > NAME is still ID            'cqdb id' gives this ID for it, as before
+  > NAME is now the name of ID  'cqdb name' gives it for this ID, and 'cqdb id' does
+                                not give the ID for it
 
 The names whose id is another follow, where no line above tells of it, as with
 names that were put again: '> NAME was ID and is now ID', '> NAME was ID and is
@@ -51,33 +53,41 @@ position comes first in each line. An image that only one of them has is told.
 fn run(args: Args) -> Outcome {
     args.not_both(&[&JSON, &ZERO])?;
     let (old, new) = (Source::open(args.path(0))?, Source::open(args.path(1))?);
+    let mut printing = Printing { args: &args, out: Output::new(), position: None };
+    let alike = if args.has(&ALL) {
+        bundles(&mut printing, by_position(&old)?, by_position(&new)?)?
+    } else {
+        compared(&mut printing, &(old.image()?, old.name()), &(new.image()?, new.name()))?
+    };
+    printing.out.flush()?;
+    [&old, &new].into_iter().try_for_each(Source::has_stayed)?;
+    Ok(alike.into())
+}
+
+/// Compares images by position. One that is not there is compared as an empty one, and told.
+fn bundles(printing: &mut Printing, old: Positions, new: Positions) -> Result<bool, Failure> {
     let empty = MemoryWriter::new().finish().map_err(files::refused)?;
     let empty = CQDB::new(&empty).map_err(|error| Failure::new(files::in_words(&error)))?;
-    let mut printing = Printing { args: &args, out: Output::new(), position: None };
-    if !args.has(&ALL) {
-        let (old, new) = ((old.image()?, old.name()), (new.image()?, new.name()));
-        let alike = compared(&mut printing, &old, &new)?;
-        return printing.out.finish(alike);
-    }
-    let (old, new) = (by_position(&old)?, by_position(&new)?);
-    let mut images = Counts::default();
-    let positions: BTreeMap<u64, ()> = old.keys().chain(new.keys()).map(|position| (*position, ())).collect();
     let absent = (empty, "an image that is not there".to_string());
-    for position in positions.into_keys() {
+    let mut images = Counts::default();
+    let positions: BTreeSet<u64> = old.keys().chain(new.keys()).copied().collect();
+    for position in positions {
         let (before, after) = (old.get(&position), new.get(&position));
         printing.position = Some(position);
         printing.image(before.is_some(), after.is_some())?;
-        let alike = compared(&mut printing, before.unwrap_or(&absent), after.unwrap_or(&absent))?;
+        let alike = compared(printing, before.unwrap_or(&absent), after.unwrap_or(&absent))?;
         images.note(before.is_some(), after.is_some(), alike);
     }
     printing.position = None;
     printing.images(&images)?;
-    printing.out.finish(!images.differ())
+    Ok(!images.differ())
 }
 
+/// An image, and what messages call it.
 type Named<'a> = (CQDB<'a>, String);
+type Positions<'a> = BTreeMap<u64, Named<'a>>;
 
-fn by_position(source: &Source) -> Result<BTreeMap<u64, Named<'_>>, Failure> {
+fn by_position(source: &Source) -> Result<Positions<'_>, Failure> {
     let name = source.name();
     let named = |(position, db)| (position, (db, format!("{name}:{position}")));
     Ok(source.images()?.into_iter().map(named).collect())
@@ -85,9 +95,28 @@ fn by_position(source: &Source) -> Result<BTreeMap<u64, Named<'_>>, Failure> {
 
 /// Prints what two images say differently. Do they say the same?
 fn compared(printing: &mut Printing, old: &Named, new: &Named) -> Result<bool, Failure> {
-    let any = printing.args.has(&ANY);
-    let canonical = (fit(old, any)?, fit(new, any)?);
-    let pair = Pair { old: old.0, new: new.0 };
+    quadratic::tell_of(&old.0, COMMAND.name);
+    quadratic::tell_of(&new.0, COMMAND.name);
+    let pair = Pair::new(old.0, new.0);
+    let [old_canonical, new_canonical] = pair.canonical();
+    if !printing.args.has(&ANY) {
+        both_ways(old, old_canonical)?;
+        both_ways(new, new_canonical)?;
+    }
+    let alike = print(printing, &pair)?;
+    let unknown = [(old_canonical, old), (new_canonical, new)].into_iter().find(|(canonical, _)| !canonical);
+    match unknown {
+        Some((_, (_, name))) if alike && old.0.bytes() != new.0.bytes() => {
+            printing.out.flush()?;
+            let what = "is not canonical, so names that no id has were not compared, and no other difference was found";
+            Err(Failure::new(format!("{name} {what}")))
+        }
+        _ => Ok(alike),
+    }
+}
+
+/// Prints what was found. Was nothing that was asked for?
+fn print(printing: &mut Printing, pair: &Pair) -> Result<bool, Failure> {
     let swapped = printing.args.has(&SWAPPED);
     let mut printed = false;
     let ids = pair.ids(|change| match !swapped || change.is_swap() {
@@ -105,27 +134,15 @@ fn compared(printing: &mut Printing, old: &Named, new: &Named) -> Result<bool, F
         false => Ok(()),
     })?;
     printing.counts(&ids, &names)?;
-    let alike = if swapped { !printed } else { !(ids.differ() || names.differ()) };
-    match [(canonical.0, old), (canonical.1, new)].into_iter().find(|(canonical, _)| !canonical) {
-        Some((_, (_, name))) if alike && old.0.bytes() != new.0.bytes() => {
-            printing.out.flush()?;
-            let what = "is not canonical, so names that no id has were not compared, and no other difference was found";
-            Err(Failure::new(format!("{name} {what}")))
-        }
-        _ => Ok(alike),
-    }
+    Ok(!printed)
 }
 
-/// Is the image canonical? Fails where it cannot be compared both ways and that was not asked for.
-fn fit((db, name): &Named, any: bool) -> Result<bool, Failure> {
-    let canonical = db.is_canonical();
-    if any {
-        return Ok(canonical);
-    }
+/// Fails where an image cannot be compared both ways.
+fn both_ways((db, name): &Named, canonical: bool) -> Result<(), Failure> {
     let what = match (canonical, list::names_none(db)) {
         (false, _) => "is not canonical: it may have names that no id has; --any compares the others",
         (true, true) => "is one-way: it names no ids; --any compares the ids of its names",
-        (true, false) => return Ok(true),
+        (true, false) => return Ok(()),
     };
     Err(Failure::new(format!("{name} {what}")))
 }
@@ -186,10 +203,9 @@ impl Printing<'_> {
             }
         }
         let Some(name) = change.before else { return Ok(()) };
-        match change.now {
-            Some(now) if now == id => self.line(&[Part::Own("> "), Part::Name(name), Part::Own(&still(id))])?,
-            Some(now) => self.line(&[Part::Own("> "), Part::Name(name), Part::Own(&format!(" is now {now}"))])?,
-            None => {}
+        if let Some(now) = change.now {
+            let word = if change.was == change.now { "still" } else { "now" };
+            self.line(&[Part::Own("> "), Part::Name(name), Part::Own(&format!(" is {word} {now}"))])?;
         }
         match change.now_name_of {
             Some(other) if change.now != Some(other) => {
@@ -205,8 +221,8 @@ impl Printing<'_> {
         json::print(&mut self.out, "old", "old_hex", change.before)?;
         self.out.bytes(b",")?;
         json::print(&mut self.out, "new", "new_hex", change.after)?;
-        let (now, name_of) = (number(change.now), number(change.now_name_of));
-        self.out.bytes(format!(",\"now\":{now},\"now_name_of\":{name_of}}}\n").as_bytes())
+        let [was, now, name_of] = [change.was, change.now, change.now_name_of].map(number);
+        self.out.bytes(format!(",\"was\":{was},\"now\":{now},\"now_name_of\":{name_of}}}\n").as_bytes())
     }
 
     fn name(&mut self, change: &NameChange) -> Result<(), Failure> {
@@ -264,10 +280,6 @@ impl Printing<'_> {
             None => Ok(()),
         }
     }
-}
-
-fn still(id: u32) -> String {
-    format!(" is still {id}")
 }
 
 fn number(number: Option<u32>) -> String {

@@ -1,7 +1,7 @@
 //! What differs between two images, both ways: the names of ids, and the ids of names.
 use std::collections::{HashMap, HashSet};
 
-use cqdb::{Change, CQDB};
+use cqdb::{Change, Puts, CQDB};
 
 use crate::outcome::{self, Failure};
 
@@ -35,7 +35,8 @@ pub struct IdChange<'a, 'b> {
     pub id: u32,
     pub before: Option<&'a [u8]>,
     pub after: Option<&'b [u8]>,
-    /// The id of the old name in the new image.
+    /// The ids of the old name in the old image and in the new one.
+    pub was: Option<u32>,
     pub now: Option<u32>,
     /// Another id whose new name is the old name.
     pub now_name_of: Option<u32>,
@@ -66,11 +67,22 @@ impl NameChange<'_> {
 
 /// Two images.
 pub struct Pair<'a> {
-    pub old: CQDB<'a>,
-    pub new: CQDB<'a>,
+    old: CQDB<'a>,
+    new: CQDB<'a>,
+    /// The puts of each; none where it is not canonical.
+    puts: [Option<Puts<'a>>; 2],
 }
 
 impl<'a> Pair<'a> {
+    pub fn new(old: CQDB<'a>, new: CQDB<'a>) -> Pair<'a> {
+        Pair { puts: [old.puts(), new.puts()], old, new }
+    }
+
+    /// Is the old image canonical, and is the new one?
+    pub fn canonical(&self) -> [bool; 2] {
+        [self.puts[0].is_some(), self.puts[1].is_some()]
+    }
+
     /// Calls with each id that the images name differently, in rising order. The archive finds them.
     pub fn ids(&self, mut give: impl FnMut(IdChange<'a, 'a>) -> Result<(), Failure>) -> Result<Counts, Failure> {
         let mut counts = Counts::default();
@@ -79,9 +91,10 @@ impl<'a> Pair<'a> {
         for Change { id, before, after, .. } in cqdb::changes(&self.old, &self.new) {
             let (before, after) = (before.map(|name| &**name), after.map(|name| &**name));
             counts.note(before.is_some(), after.is_some(), false);
+            let was = before.and_then(|name| self.old.to_id_bytes(name));
             let now = before.and_then(|name| self.new.to_id_bytes(name));
             let now_name_of = before.and_then(|name| names_now.get(name).copied());
-            give(IdChange { id, before, after, now, now_name_of })?;
+            give(IdChange { id, before, after, was, now, now_name_of })?;
         }
         // The old image names all but the new ones.
         counts.compared = named + counts.new;
@@ -104,8 +117,11 @@ impl<'a> Pair<'a> {
         let (mut counts, mut seen) = (Counts::default(), HashSet::new());
         let mut compare = |name: &'a [u8]| {
             seen.try_reserve(1).map_err(|_| self.out_of_memory())?;
+            if !seen.insert(name) {
+                return Ok(());
+            }
             let (before, after) = (self.old.to_id_bytes(name), self.new.to_id_bytes(name));
-            if !seen.insert(name) || before.or(after).is_none() {
+            if before.or(after).is_none() {
                 return Ok(());
             }
             counts.note(before.is_some(), after.is_some(), before == after);
@@ -114,8 +130,8 @@ impl<'a> Pair<'a> {
                 false => give(NameChange { name, before, after, told: self.is_told(name, before, after) }),
             }
         };
-        each_name(&self.old, &mut compare)?;
-        each_name(&self.new, &mut compare)?;
+        each_name(&self.old, &self.puts[0], &mut compare)?;
+        each_name(&self.new, &self.puts[1], &mut compare)?;
         Ok(counts)
     }
 
@@ -137,8 +153,12 @@ impl<'a> Pair<'a> {
 }
 
 /// Calls with the name of each put. Of an image that is not canonical only the names that ids have are known.
-fn each_name<'a>(db: &CQDB<'a>, mut give: impl FnMut(&'a [u8]) -> Result<(), Failure>) -> Result<(), Failure> {
-    match db.puts() {
+fn each_name<'a>(
+    db: &CQDB<'a>,
+    puts: &Option<Puts<'a>>,
+    mut give: impl FnMut(&'a [u8]) -> Result<(), Failure>,
+) -> Result<(), Failure> {
+    match puts.clone() {
         Some(mut puts) => puts.try_for_each(|(name, _)| give(name)),
         None => (0..db.back_size()).filter_map(|id| db.to_str(id)).try_for_each(|name| give(name)),
     }

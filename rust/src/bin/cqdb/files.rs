@@ -4,6 +4,7 @@ use std::fs::{self, File};
 use std::io::{self, Read};
 use std::ops::Deref;
 use std::os::unix::ffi::OsStrExt;
+use std::os::unix::fs::MetadataExt;
 use std::path::{Path, PathBuf};
 use std::sync::atomic::{AtomicBool, Ordering};
 
@@ -87,11 +88,34 @@ fn read_whole(mut from: impl Read, path: &Path) -> Result<Vec<u8>, Failure> {
     }
 }
 
+/// What shows that a file was written to: its size, and the time of its last change.
+#[derive(PartialEq, Eq)]
+pub struct State(u64, i64, i64);
+
+impl State {
+    /// None where it is no regular file, as a pipe.
+    pub fn of(file: &File) -> io::Result<Option<State>> {
+        let about = file.metadata()?;
+        Ok(about.is_file().then(|| State(about.len(), about.mtime(), about.mtime_nsec())))
+    }
+
+    /// Fails where a file is not as it was: what was read of it may be of two states.
+    pub fn has_stayed(before: &Option<State>, file: &File, name: &str) -> Result<(), Failure> {
+        let now = State::of(file).map_err(|error| cannot_read(Path::new(name), error))?;
+        match now == *before {
+            true => Ok(()),
+            false => Err(Failure::new(format!("{name} changed while it was read: its size or time is another"))),
+        }
+    }
+}
+
 /// A file that images are asked for: all of it, or the image at a position of a bundle, as `BUNDLE:1` says.
 pub struct Source {
     path: PathBuf,
     position: Option<u64>,
     bytes: Bytes,
+    /// The file and its state when it was opened; none where it is standard input, which is read whole.
+    opened: Option<(File, Option<State>)>,
 }
 
 impl Source {
@@ -100,7 +124,20 @@ impl Source {
             Some((file, position)) if !path.exists() => (file, Some(position)),
             _ => (path.to_path_buf(), None),
         };
-        Ok(Source { bytes: read(&path)?, path, position })
+        if path == Path::new("-") {
+            return Ok(Source { bytes: read(&path)?, path, position, opened: None });
+        }
+        let file = File::open(&path).map_err(|error| cannot_read(&path, error))?;
+        let before = State::of(&file).map_err(|error| cannot_read(&path, error))?;
+        Ok(Source { bytes: bytes_of(&file, &path)?, path, position, opened: Some((file, before)) })
+    }
+
+    /// Fails where the file is not as it was when it was opened. It is mapped, so an answer may be of two states.
+    pub fn has_stayed(&self) -> Result<(), Failure> {
+        match &self.opened {
+            Some((file, before)) => State::has_stayed(before, file, &shown(&self.path)),
+            None => Ok(()),
+        }
     }
 
     /// What messages call the image.
@@ -173,7 +210,9 @@ pub fn asked(path: &Path, ask: impl FnOnce(&CQDB, &mut Output) -> Outcome) -> Ou
     let db = source.image()?;
     let mut out = Output::new();
     let answer = ask(&db, &mut out)?;
-    out.finish(answer)
+    out.flush()?;
+    source.has_stayed()?;
+    Ok(answer)
 }
 
 /// An error of the crate, with its refusal's number.

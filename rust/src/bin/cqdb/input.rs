@@ -3,11 +3,10 @@ use std::ffi::OsStr;
 use std::fs::File;
 use std::io::{self, BufRead, BufReader, IsTerminal, Read};
 use std::os::fd::AsFd;
-use std::os::unix::fs::MetadataExt;
 use std::path::Path;
 
 use crate::args::Opt;
-use crate::files;
+use crate::files::{self, State};
 use crate::outcome::{self, Failure};
 
 pub const INCOMPLETE: Opt =
@@ -18,12 +17,9 @@ pub struct Input {
     reader: BufReader<File>,
     /// What messages call it.
     pub name: String,
-    /// The state of a regular file when it was opened.
+    /// The state of the file when it was opened.
     before: Option<State>,
 }
-
-/// What shows that a file was written to: its size, and the time of its last change.
-type State = (u64, i64, i64);
 
 impl Input {
     /// A file, or standard input where there is none or it is called `-`.
@@ -33,7 +29,7 @@ impl Input {
             Some(path) if path != "-" => (File::open(path), path.to_string_lossy().into_owned()),
             _ => (standard_input()?, "standard input".to_string()),
         };
-        let opened = file.and_then(|file| Ok((state_of(&file)?, file)));
+        let opened = file.and_then(|file| Ok((State::of(&file)?, file)));
         let (before, file) = opened.map_err(|error| files::cannot_read(Path::new(&name), error))?;
         Ok(Input { reader: BufReader::with_capacity(BUFFER, file), name, before })
     }
@@ -44,13 +40,9 @@ impl Input {
         Ok((bytes, &self.name))
     }
 
-    /// Fails where the file is not as it was when it was opened: what was read may be of two states.
+    /// Fails where the file is not as it was when it was opened.
     pub fn at_end(&self) -> Result<(), Failure> {
-        let now = state_of(self.reader.get_ref()).map_err(|error| files::cannot_read(Path::new(&self.name), error))?;
-        match now == self.before {
-            true => Ok(()),
-            false => Err(Failure::new(format!("{} changed while it was read: its size or time is another", self.name))),
-        }
+        State::has_stayed(&self.before, self.reader.get_ref(), &self.name)
     }
 }
 
@@ -77,10 +69,4 @@ fn standard_input() -> Result<io::Result<File>, Failure> {
         outcome::tell("lines are read from the terminal; Ctrl-D ends them");
     }
     Ok(input.as_fd().try_clone_to_owned().map(File::from))
-}
-
-/// None where it is no regular file, as a pipe.
-fn state_of(file: &File) -> io::Result<Option<State>> {
-    let about = file.metadata()?;
-    Ok(about.is_file().then(|| (about.len(), about.mtime(), about.mtime_nsec())))
 }

@@ -35,7 +35,7 @@ pub fn quoted(out: &mut Output, bytes: &[u8]) -> Result<(), Failure> {
                 (std::str::from_utf8(&rest[..end]).unwrap_or(""), end + wrong)
             }
         };
-        text.chars().try_for_each(|letter| quoted_letter(out, letter))?;
+        text.split_inclusive(is_escaped).try_for_each(|part| quoted_part(out, part))?;
         if text.len() < behind {
             out.bytes("\u{fffd}".as_bytes())?;
         }
@@ -44,15 +44,24 @@ pub fn quoted(out: &mut Output, bytes: &[u8]) -> Result<(), Failure> {
     out.bytes(b"\"")
 }
 
-fn quoted_letter(out: &mut Output, letter: char) -> Result<(), Failure> {
-    match letter {
+/// Is the letter written in another way? Controls have to be; what else a terminal would obey is too.
+fn is_escaped(letter: char) -> bool {
+    matches!(letter, '"' | '\\') || letters::is_obeyed(letter)
+}
+
+/// Prints letters of which the last alone may have to be written in another way.
+fn quoted_part(out: &mut Output, part: &str) -> Result<(), Failure> {
+    let Some(last) = part.chars().next_back().filter(|last| is_escaped(*last)) else {
+        return out.bytes(part.as_bytes());
+    };
+    out.bytes(&part.as_bytes()[..part.len() - last.len_utf8()])?;
+    match last {
         '"' => out.bytes(b"\\\""),
         '\\' => out.bytes(b"\\\\"),
         '\n' => out.bytes(b"\\n"),
         '\r' => out.bytes(b"\\r"),
         '\t' => out.bytes(b"\\t"),
-        letter if letters::is_obeyed(letter) => out.bytes(format!("\\u{:04x}", letter as u32).as_bytes()),
-        letter => out.bytes(letter.encode_utf8(&mut [0; 4]).as_bytes()),
+        letter => out.bytes(format!("\\u{:04x}", letter as u32).as_bytes()),
     }
 }
 

@@ -42,6 +42,9 @@ impl Iterator for Letters<'_> {
 /// Would a terminal obey the letter? Controls are those of ASCII, of ISO 6429 (0x80 to 0x9f) and delete; other letters
 /// turn the direction in which text is written.
 pub fn is_obeyed(letter: char) -> bool {
+    if letter.is_ascii() {
+        return letter.is_ascii_control();
+    }
     let turns =
         matches!(letter, '\u{61c}' | '\u{200e}' | '\u{200f}' | '\u{202a}'..='\u{202e}' | '\u{2066}'..='\u{2069}');
     letter.is_control() || turns

@@ -44,7 +44,9 @@ fn run(args: Args) -> Outcome {
     if listing.cdb {
         listing.out.bytes(b"\n")?;
     }
-    listing.out.finish(Answer::from(all))
+    listing.out.flush()?;
+    source.has_stayed()?;
+    Ok(Answer::from(all))
 }
 
 struct Listing<'a> {

@@ -47,7 +47,9 @@ pub fn put_to_image(args: &Args, command: &str, places: (usize, usize), question
             images.iter().map(|(position, db)| Ok((*position, question.ask(db, words)?))).collect();
         asking.round(words, said?)
     })?;
-    asking.finish()
+    let answer = asking.finish()?;
+    source.has_stayed()?;
+    Ok(answer)
 }
 
 fn value_of<Q: Question>(_: &Q) -> Value {
