@@ -12,3 +12,4 @@ pub mod Alone
 pub mod Changed
 pub mod Images
 pub mod Theorem
+pub mod Held
