@@ -13,3 +13,5 @@ pub mod Changed
 pub mod Images
 pub mod Theorem
 pub mod Held
+pub mod Rows
+pub mod DateRows
