@@ -15,3 +15,4 @@ pub mod Theorem
 pub mod Held
 pub mod Rows
 pub mod DateRows
+pub mod RefusedRows

@@ -31,7 +31,7 @@ use Rattle.preflight.proofs.Images.{by-puts}
 storable : Entry → Bool
 storable e = cond (hasZero (e .name)) false (ltb (e .id) 4294967296)
 
-unfoldable allStorable : List Entry → Bool
+allStorable : List Entry → Bool
 allStorable [] = true
 allStorable (e ∷ es) = cond (storable e) (allStorable es) false
 

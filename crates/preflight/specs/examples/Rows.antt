@@ -1,9 +1,9 @@
 -- Worked examples: two catalogues, a sheet and a round, and the answer.
 use Prim.Native.Nat.{ℕ}
 use mathlib.Core.Path.{_≡_}
-use mathlib.Core.List.{List, [], _∷_}
-use lib.ListN.{take}
-use Rattle.image.specs.Image.{Entry, image}
+use mathlib.Core.List.{List, [], _∷_, _++_}
+use lib.ListN.{replicate}
+use Rattle.image.specs.Image.{Entry, headBytes, image}
 use Rattle.image.specs.declared.Mode.the-variants.{Twoway, Oneway}
 use Rattle.writer.specs.Put.{entryOf}
 use Rattle.sheet.specs.Format.{sheetBytes}
@@ -36,10 +36,10 @@ abbrev pub no : Verdict → Answer
 no v = record { verdict = v; compared = 0; added = 0; unsighted = 0 }
 
 -- the names A, B, C, D, and the empty one
-abbrev A : ℕ → Entry
+abbrev pub A : ℕ → Entry
 A id = entryOf (65 ∷ []) id
 
-abbrev B : ℕ → Entry
+abbrev pub B : ℕ → Entry
 B id = entryOf (66 ∷ []) id
 
 abbrev C : ℕ → Entry
@@ -52,7 +52,7 @@ abbrev noName : ℕ → Entry
 noName id = entryOf [] id
 
 -- the reference 1, the wall prisms 2 and 3, and 9, which is retired
-abbrev listed : List ℕ
+abbrev pub listed : List ℕ
 listed = sheetBytes (record { references = 1 ∷ []; walls = 2 ∷ 3 ∷ []; retired = 9 ∷ [] })
 
 abbrev row : List Entry → List Entry → List ℕ → List ℕ → Answer → PreflightRow
@@ -129,19 +129,26 @@ sheetRows =
     ∷ onSheet (sheetBytes (record { references = []; walls = 1 ∷ []; retired = 1 ∷ [] })) (1 ∷ []) (OffSheet 0)
     ∷ []
 
--- the last report's image is damaged, one-way, or no bytes at all, which is not a first report
-abbrev thisWeek : List ℕ
+-- images that are no catalogue: a head with a damaged back offset, a one-way image, no bytes at all
+abbrev pub thisWeek : List ℕ
 thisWeek = image Twoway (A 1 ∷ B 2 ∷ [])
 
-abbrev pub lastWeek : List (List ℕ)
-lastWeek = take 2100 thisWeek ∷ image Oneway (A 1 ∷ B 2 ∷ []) ∷ [] ∷ []
+abbrev pub damaged : List ℕ
+damaged = headBytes 2072 0 0 2072 ++ replicate 2048 0
 
+abbrev pub oneWay : List ℕ
+oneWay = image Oneway (A 1 ∷ B 2 ∷ [])
+
+abbrev pub noCatalogues : List (List ℕ)
+noCatalogues = damaged ∷ oneWay ∷ [] ∷ []
+
+-- as the image of the last report, which makes no first report of it; and as the image of this one
 abbrev pub RefusedAsOld : List ℕ → Type 0
 RefusedAsOld old = preflight old thisWeek listed (1 ∷ 2 ∷ []) [] ≡ no OldRefused
 
--- so is the image of this week; a first report with the whole one leaves
 abbrev pub RefusedAsNew : List ℕ → Type 0
 RefusedAsNew new = preflightFirst new listed (1 ∷ 2 ∷ []) ≡ no NewRefused
 
+-- a first report with a whole image leaves
 abbrev pub FirstLeaves : Type 0
 FirstLeaves = preflightFirst thisWeek listed (1 ∷ 2 ∷ []) ≡ yes 0 0 1
