@@ -16,3 +16,4 @@ pub mod Held
 pub mod Rows
 pub mod DateRows
 pub mod RefusedRows
+pub mod Distinct
