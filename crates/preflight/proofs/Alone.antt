@@ -154,3 +154,7 @@ module _ (new sheet round : List ℕ) where
       ap (λ (t : Bool). cond t rest NewRefused) (whole-back new (m .new-whole))
       ∙ both-back (ofSheet (readLists sheet) round) (ofRound (nameGiven new) round) (sheet-back sheet round (m .on-sheet))
       (round-back new round (m .round-named))
+
+  -- so the sheet alone gives a yes
+  pub sheet-yes : verdictFirst new sheet round ≡ Yes → ofSheet (readLists sheet) round ≡ Yes
+  sheet-yes h = sheet-back sheet round (first-forth h .on-sheet)

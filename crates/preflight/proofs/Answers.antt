@@ -16,9 +16,6 @@ use Rattle.sheet.specs.declared.Which.{Which}
 use Rattle.sheet.specs.declared.Which.the-variants.{References, Walls, Retired}
 use Rattle.preflight.specs.Names.{Names, firstNameless, firstRenamed}
 use Rattle.preflight.specs.Exchanges.{firstSharedIn, someKeptIn, firstTakenIn}
-use Rattle.sheet.specs.Format.{ids}
-use Rattle.preflight.specs.Ids.{passing}
-use Rattle.preflight.specs.Counts.{absent, unsightedIn}
 use Rattle.preflight.specs.OnSheet.{firstOff, ofOff, ofSheet}
 use Rattle.preflight.specs.Verdicts.{isWhole, isYes, andThen, ofNameless, ofShared, ofRenamed, ofTaken}
 use Rattle.preflight.specs.Verdicts.{ofRound, ofChanges, verdictFirst, verdict}
@@ -126,23 +123,6 @@ module _ (file : Slice) (round : List ℕ) where
         let pb = part-is Walls b g in
         let pc = part-is Retired c h in
         ap ofOff (d ∙ (λ i. firstOff (sheet.idsIn (pa i)) (sheet.idsIn (pb i)) (sheet.idsIn (pc i)) round)) ∙ ap listed e
-
-  -- what is not sighted, of any sheet: the sections of one that is refused are empty
-  pub unsighted-is : (a b : Slice) (m n : ℕ) → a ≡ sheet.sectionPart file References → b ≡ sheet.sectionPart file Walls
-      → m ≡ passing (absent round) (sheet.idsIn (a .bytes)) → n ≡ passing (absent round) (sheet.idsIn (b .bytes))
-      → m + n ≡ unsightedIn (readLists (file .bytes)) round
-  unfolding sheet.readLists ids passing
-  unsighted-is a b m n f g d e =
-      (λ i. d i + e i)
-      ∙ (λ i. passing (absent round) (sheet.idsIn (f i .bytes)) + passing (absent round) (sheet.idsIn (g i .bytes)))
-      ∙ by-reading (sheet.readSheet (file .bytes))
-    where
-      by-reading : (x : Outcome Sheet)
-          → passing (absent round) (sheet.idsIn (sheet.sectionOrEmpty file References x .bytes))
-          + passing (absent round) (sheet.idsIn (sheet.sectionOrEmpty file Walls x .bytes))
-          ≡ unsightedIn (sheet.andThen x (λ (s : Sheet). value (sheet.listsOf (file .bytes) s))) round
-      by-reading (value s) = refl
-      by-reading (refusal k) = refl
 
 -- ---- the whole answer
 module _ (v w : Verdict) (e : v ≡ w) where

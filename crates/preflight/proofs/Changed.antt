@@ -106,3 +106,7 @@ module _ (old new sheet round accepted : List ℕ) where
       both-back (verdictFirst new sheet round) (ofChanges old new round accepted) (first-back new sheet round (m .alone))
       (changes-back old new round accepted
       (record { old-whole = m .old-whole; some-alike = m .some-alike; not-renamed = m .not-renamed; not-taken = m .not-taken }))
+
+  -- so the questions of a first report alone give a yes
+  pub alone-yes : verdict old new sheet round accepted ≡ Yes → verdictFirst new sheet round ≡ Yes
+  alone-yes h = first-back new sheet round (forth h .alone)

@@ -43,14 +43,15 @@ module _ (img : List ℕ) (m : Made img) (two : m .mode ≡ Twoway) where
       ∙ ap (λ (x : Mode). backSizeOf x (m .puts) - 0) two
       ∙ z
 
-module _ (old new : List ℕ) (m : Made old) (n : Made new) (p : m .mode ≡ Twoway) (q : n .mode ≡ Twoway)
-    (sheet round accepted : List ℕ) where
-  first-by-puts : verdictFirst new sheet round ≡ andThen (ofSheet (readLists sheet) round) (ofRound (namesOf (n .puts)) round)
+module _ (new : List ℕ) (n : Made new) (q : n .mode ≡ Twoway) (sheet round : List ℕ) where
+  pub first-by-puts : verdictFirst new sheet round ≡ andThen (ofSheet (readLists sheet) round) (ofRound (namesOf (n .puts)) round)
   unfolding verdictFirst
   first-by-puts =
       ap (λ (t : Bool). cond t (andThen (ofSheet (readLists sheet) round) (ofRound (nameGiven new) round)) NewRefused) (made-whole new n q)
       ∙ ap (λ (f : Names). andThen (ofSheet (readLists sheet) round) (ofRound f round)) (made-names new n q)
 
+module _ (old new : List ℕ) (m : Made old) (n : Made new) (p : m .mode ≡ Twoway) (q : n .mode ≡ Twoway)
+    (sheet round accepted : List ℕ) where
   changes-by-puts : ofChanges old new round accepted ≡ ofNames (namesOf (m .puts)) (namesOf (n .puts)) (backSize (m .puts)) round accepted
   unfolding ofChanges
   changes-by-puts =
@@ -59,7 +60,7 @@ module _ (old new : List ℕ) (m : Made old) (n : Made new) (p : m .mode ≡ Two
 
   verdict-by-puts : verdict old new sheet round accepted ≡ verdictByPuts (m .puts) (n .puts) sheet round accepted
   unfolding verdict
-  verdict-by-puts = λ i. andThen (first-by-puts i) (changes-by-puts i)
+  verdict-by-puts = λ i. andThen (first-by-puts new n q sheet round i) (changes-by-puts i)
 
   pub by-puts : preflight old new sheet round accepted ≡ byPuts (m .puts) (n .puts) sheet round accepted
   by-puts =

@@ -12,3 +12,8 @@ pub mod Alone
 pub mod Changed
 pub mod Images
 pub mod Theorem
+pub mod Held
+pub mod Rows
+pub mod DateRows
+pub mod RefusedRows
+pub mod Distinct

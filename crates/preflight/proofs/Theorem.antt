@@ -131,7 +131,7 @@ someone new sheet [] m = absurd (m .round-named .some-id refl)
 someone new sheet (x ∷ xs) m = let w = m .round-named .named x (inl refl) in (x, w .0, w .1)
 
 -- ---- refused
-refuted : {P : Type 0} (t : Bool) → (t ≡ true → P) → ¬ P → t ≡ false
+pub refuted : {P : Type 0} (t : Bool) → (t ≡ true → P) → ¬ P → t ≡ false
 refuted true h n = absurd (n (h refl))
 refuted false h n = refl
 
@@ -140,7 +140,7 @@ module _ (old new sheet round accepted : List ℕ) where
   unfolding verdict verdictFirst
   new-refused n = simp (refuted (isWhole new) (whole-forth new) n)
 
-  old-refused : MayLeaveFirst new sheet round → ¬ Whole old → verdict old new sheet round accepted ≡ OldRefused
+  pub old-refused : MayLeaveFirst new sheet round → ¬ Whole old → verdict old new sheet round accepted ≡ OldRefused
   unfolding verdict ofChanges
   old-refused m n = simp (first-back new sheet round m, refuted (isWhole old) (whole-forth old) n)
 
@@ -149,7 +149,7 @@ module _ (old new sheet round accepted : List ℕ) where
   nothing-alike m w n =
       simp (first-back new sheet round m, whole-back old w, refuted (someKeptIn old new) (alike-forth old new) n)
 
-no-bytes : ¬ Whole []
+pub no-bytes : ¬ Whole []
 unfolding opening
 no-bytes w = never-refused [] 1 (λ i. lit< tt) (w .is-canonical) refl
 

@@ -9,3 +9,4 @@ pub mod Preflight
 pub mod Dates
 pub mod steps
 pub mod theorems
+pub mod examples

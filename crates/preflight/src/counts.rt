@@ -3,12 +3,14 @@ ghost use mathlib.Core.Path.{_≡_};
 ghost use Rattle.reader.specs.Naming.{nameGiven};
 ghost use Rattle.sheet.specs.SheetReading.{readLists};
 ghost use Rattle.preflight.specs.Counts.{isGiven, names, absent, unsightedIn};
-ghost use Rattle.preflight.specs.steps.Contracts.{OneOf, Tallied, PartTallied};
+ghost use Rattle.preflight.specs.OnSheet.{ofSheet};
+ghost use Rattle.preflight.specs.steps.Contracts.{OneOf, Tallied};
+ghost use Rattle.preflight.specs.steps.Distinct.{distinct};
+ghost use Rattle.preflight.specs.declared.Verdict.the-variants.{Yes};
 use super::names::occurs;
 use reader::Named;
 use reader::to_str;
 use sheet::Which;
-use sheet::id_at;
 use sheet::section;
 
 // 1 where the image names the id, else 0.
@@ -41,25 +43,26 @@ fn one_if_absent(round: &[u32], id: u32) -> usize
     if occurs(round, id) { 0 } else { 1 }
 }
 
-// How many ids of a part of a sheet are not in the round.
-fn count_absent(part: &[u8], round: &[u32]) -> usize
-    ensures { λ r. ⌜ PartTallied (absent (now (round .entry))) (now (part .entry)) r ⌝ }
+// How many different ids the round has: the places whose id does not follow once more.
+fn distinct(round: &[u32]) -> usize
+    ensures { λ r. ⌜ r ≡ distinct (now (round .entry)) ⌝ }
 {
-    let n = part.len() / 4;
     let mut seen: usize = 0;
     let mut i: usize = 0;
-    while i < n {
-        seen += one_if_absent(round, id_at(part, i));
+    while i < round.len() {
+        seen += one_if_absent(&round[i + 1..], round[i]);
         i += 1;
     }
     seen
 }
 
-// How many references and wall prisms of a sheet are not in the round; 0 where the sheet does not read.
+// How many references and wall prisms of a sheet are not in the round, where each id of the round is one of them, once:
+// all but the different ids of the round.
 pub(crate) fn unsighted(file: &[u8], round: &[u32]) -> usize
+    requires { ⌜ ofSheet (readLists (now file)) (now round) ≡ Yes ⌝ }
     ensures { λ r. ⌜ r ≡ unsightedIn (readLists (now (file .entry))) (now (round .entry)) ⌝ }
 {
     let references = section(file, Which::References);
     let walls = section(file, Which::Walls);
-    count_absent(references, round) + count_absent(walls, round)
+    references.len() / 4 + walls.len() / 4 - distinct(round)
 }

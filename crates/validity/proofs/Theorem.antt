@@ -62,7 +62,7 @@ module _ (test : Window → Bool) where
 
   -- a window more, behind the first ones
   module _ (w : Window) (after : List Window) where
-    some-added : (before : List Window) → someWindow test (before ++ after) ≡ true → someWindow test (before ++ w ∷ after) ≡ true
+    pub some-added : (before : List Window) → someWindow test (before ++ after) ≡ true → someWindow test (before ++ w ∷ after) ≡ true
     some-added [] e = some-more w after e
     some-added (v ∷ vs) e =
         elim (decided (test v)) [
@@ -70,7 +70,7 @@ module _ (test : Window → Bool) where
           | inr f ↦ some-behind v (vs ++ w ∷ after) f ∙ some-added vs (sym (some-behind v (vs ++ after) f) ∙ e)
         ]
 
-    none-added : (before : List Window) → test w ≡ false → someWindow test (before ++ after) ≡ false → someWindow test (before ++ w ∷ after) ≡ false
+    pub none-added : (before : List Window) → test w ≡ false → someWindow test (before ++ after) ≡ false → someWindow test (before ++ w ∷ after) ≡ false
     none-added [] n e = some-behind w after n ∙ e
     none-added (v ∷ vs) n e =
         elim (decided (test v)) [

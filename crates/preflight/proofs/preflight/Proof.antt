@@ -7,6 +7,9 @@ use Rattle.reader.specs.Naming.{nameGiven}
 use Rattle.sheet.specs.SheetReading.{readLists}
 use Rattle.preflight.specs.Counts.{names, comparedIn, addedIn, unsightedIn}
 use Rattle.preflight.proofs.Answers.{answer-no, answer-yes}
+use Rattle.preflight.proofs.Yes.{yes-only}
+use Rattle.preflight.proofs.Alone.{sheet-yes}
+use Rattle.preflight.proofs.Changed.{alone-yes}
 use Rattle.preflight.proofs.Tallies.{added-so}
 use Rattle.preflight.proofs.preflight.Statement.{statement}
 use Rattle.preflight.proofs.preflight.Tie as tie
@@ -26,6 +29,14 @@ returns c =
 sub-t11 : tie.Need-sub-t11
 sub-t11 c = omega (arith, c .compared .ensures .most)
 
+unsighted-requires : tie.Need-unsighted-requires
+unsighted-requires c κs =
+    let y = c .before .before .is-yes in
+    let d = c .before .before .before in
+    let a = start d .args in
+    let yes-all = sym (d .verdict-all .ensures) ∙ yes-only _ (sym (y .ensures) ∙ not-false (y .result) (c .before .if1 .left)) in
+    sheet-yes (a .new .now) (a .sheet .now) (a .round .now) (alone-yes (a .old .now) (a .new .now) (a .sheet .now) (a .round .now) (a .accepted .now) yes-all)
+
 returns-2 : tie.Need-returns-2
 returns-2 c =
     let n = c .before .compared in
@@ -44,5 +55,5 @@ preflight-spec =
     returns
     (λ c κs. search needs)
     sub-t11
-    (λ c κs. search needs)
+    unsighted-requires
     returns-2)

@@ -5,6 +5,8 @@ use borrow.Author.Tests.{not-true, not-false}
 use Rattle.sheet.specs.SheetReading.{readLists}
 use Rattle.preflight.specs.Counts.{unsightedIn}
 use Rattle.preflight.proofs.Answers.{answer-no, answer-yes}
+use Rattle.preflight.proofs.Yes.{yes-only}
+use Rattle.preflight.proofs.Alone.{sheet-yes}
 use Rattle.preflight.proofs.preflight_first.Statement.{statement}
 use Rattle.preflight.proofs.preflight_first.Tie as tie
 
@@ -19,6 +21,14 @@ returns c =
     answer-no _ _ (d .verdict-first .ensures) 0 0 (unsightedIn (readLists (a .sheet .now)) (a .round .now))
     (sym (y .ensures) ∙ not-true (y .result) (c .if1 .taken))
 
+unsighted-requires : tie.Need-unsighted-requires
+unsighted-requires c κs =
+    let y = c .before .is-yes in
+    let d = c .before .before in
+    let a = start d .args in
+    sheet-yes (a .new .now) (a .sheet .now) (a .round .now)
+    (sym (d .verdict-first .ensures) ∙ yes-only _ (sym (y .ensures) ∙ not-false (y .result) (c .if1 .left)))
+
 returns-2 : tie.Need-returns-2
 returns-2 c =
     let y = c .before .before .is-yes in
@@ -28,4 +38,4 @@ returns-2 c =
 
 pub preflight-first-spec : {M : Type 1} → statement M
 preflight-first-spec =
-    tie.close (tie.spec (λ c κs. search needs) (λ c κs. search needs) returns (λ c κs. search needs) returns-2)
+    tie.close (tie.spec (λ c κs. search needs) (λ c κs. search needs) returns unsighted-requires returns-2)

@@ -1,16 +1,27 @@
 -- `preflight::counts::unsighted` meets its contract. Assumes nothing.
+use native.Mathlib.Omega.{arith}
 use borrow.Author.Needs.{needs}
 use Rattle.reader.specs.Slices.{slice}
-use Rattle.preflight.proofs.Answers.{unsighted-is}
+use Rattle.preflight.proofs.Distinct.{unsighted-so}
 use Rattle.preflight.proofs.counts.unsighted.Statement.{statement}
 use Rattle.preflight.proofs.counts.unsighted.Tie as tie
 
+abbrev start : tie.After-distinct → tie.Start
+start c = c .before .before .before .before .before
+
+sub-result : tie.Need-sub-result
+sub-result c =
+    let a = start c .args in
+    let all-but =
+    unsighted-so (slice (a .file)) (a .round .now) _ _ _ (start c .pre) (c .before .before .section .ensures) (c .before .section2 .ensures)
+    (c .distinct .ensures) in
+    omega (arith, all-but .enough)
+
 returns : tie.Need-returns
 returns c =
-    let s = c .before .before in
-    let a = s .before .before .before .before .args in
-    unsighted-is (slice (a .file)) (a .round .now) _ _ _ _ (s .before .section .ensures) (s .section2 .ensures)
-    (c .before .count-absent .ensures .is) (c .count-absent2 .ensures .is)
+    let a = start c .args in
+    unsighted-so (slice (a .file)) (a .round .now) _ _ _ (start c .pre) (c .before .before .section .ensures) (c .before .section2 .ensures)
+    (c .distinct .ensures) .is
 
 pub unsighted-spec : {M : Type 1} → statement M
 unsighted-spec =
@@ -18,7 +29,7 @@ unsighted-spec =
     (tie.spec
     (λ c κs. search needs)
     (λ c κs. search needs)
-    (λ c κs. search needs)
-    (λ c κs. search needs)
     (λ c. search needs)
+    (λ c κs. search needs)
+    sub-result
     returns)

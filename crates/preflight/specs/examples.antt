@@ -1,0 +1,3 @@
+-- Worked examples: rows that the checker computes.
+pub mod Rows
+pub mod DateRows
