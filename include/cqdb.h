@@ -63,6 +63,9 @@
      page_length                     call                                       1.6       1.6
      page_part                       line                                       6.9       7.8
      panel                           call                                       5.4       9.5
+     preflight                       report of 512 ids                      971,324 8,920,156       2
+     preflight_dates                 window and id of the round, at most        0.3
+     preflight_first                 report of 512 ids                      895,992 2,511,111       2
      put, repeats off                earlier entry                              4.1       4.1       2
      put, repeats on                 call                                        23        23
      put_indexed                     call                                        14        23
