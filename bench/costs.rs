@@ -87,10 +87,13 @@ fn date(year: u16, month: u8, day: u8) -> Date {
     Date { year, month, day }
 }
 
+fn standing(id: u32) -> Window {
+    Window { id, first: date(2024, 1, 1), end: date(2025, 1, 1) }
+}
+
 // Names on a date: with one window, and what each further one costs.
 fn seasons(list: &List) -> Vec<Cost> {
-    let window = |id| Window { id, first: date(2024, 1, 1), end: date(2025, 1, 1) };
-    let (one_window, many): (_, Vec<Window>) = ([window(77)], (0..1_000).map(window).collect());
+    let (one_window, many): (_, Vec<Window>) = ([standing(77)], (0..1_000).map(standing).collect());
     let on =
         |windows: &[Window]| archive::name_on(&list.image, 77, black_box(date(2024, 2, 29)), black_box(windows)).start;
     let further = least(many.len(), || {
@@ -134,7 +137,12 @@ fn rounds(list: &List) -> Vec<Cost> {
     let order = least(64 * list.n, || {
         black_box(archive::references_first(black_box(&pairs), black_box(&list.ids)));
     });
+    let (few, windows) = (&list.ids[..512], list.ids[..512].iter().map(|&id| standing(id)).collect::<Vec<Window>>());
+    let held = least(512 * 512, || {
+        assert_eq!(archive::preflight_dates(black_box(&windows), few, date(2024, 1, 1), date(2024, 2, 29)).question, 0);
+    });
     vec![
+        ("preflight_dates", "window and id of the round, at most", 2.0 * held),
         ("sheet_read", "call", one(|| archive::sheet_read(black_box(&sheet)).refusal)),
         ("sheet_write", "id", write),
         ("references_first", "pair and id of the round, at most", order),

@@ -90,9 +90,20 @@ fn checking(list: &List) -> Vec<Cost> {
     ]
 }
 
+// A report of 512 ids, whose sheet lists them alone.
+fn reports(list: &List) -> Vec<Cost> {
+    let (image, round) = (&list.image, &list.ids[..512]);
+    let mut sheet = vec![0; 6 + 4 * round.len()];
+    assert_eq!(archive::sheet_write(&mut sheet, [&[], round, &[]]).refusal, 0);
+    let report = || assert_eq!(archive::preflight(black_box(image), image, &sheet, round, &[]).compared, 512);
+    let first = || assert_eq!(archive::preflight_first(black_box(image), &sheet, round).question, 0);
+    vec![("preflight", "report of 512 ids", least(1, report)), ("preflight_first", "report of 512 ids", least(1, first))]
+}
+
 pub fn run(list: &List) -> Vec<Cost> {
     let mut costs = writing(list);
     costs.extend(building(list));
     costs.extend(checking(list));
+    costs.extend(reports(list));
     costs
 }

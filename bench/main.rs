@@ -12,12 +12,13 @@ mod hash;
 mod load;
 mod names;
 mod page;
+mod preflight;
 mod reading;
 mod repeats;
 mod round;
 mod table;
 
-const PARTS: [(&str, fn()); 12] = [
+const PARTS: [(&str, fn()); 13] = [
     ("hash", hash::run),
     ("reading", reading::run),
     ("building", building::run),
@@ -29,6 +30,7 @@ const PARTS: [(&str, fn()); 12] = [
     ("round", round::run),
     ("average", average::run),
     ("changes", changes::run),
+    ("preflight", preflight::run),
     ("drop-in", drop_in::run),
 ];
 

@@ -13,7 +13,7 @@
 #define NAMES 4096u
 #define ROOM 200000u
 
-static uint8_t image[ROOM], buf[ROOM], file[2 * ROOM], page[45 * NAMES], names[9 * NAMES];
+static uint8_t image[ROOM], buf[ROOM], file[2 * ROOM], page[45 * NAMES], names[9 * NAMES], sheet[6 + 4 * NAMES];
 static uint64_t ends[NAMES];
 static uint32_t ids[NAMES], refusals[NAMES], work[7 * NAMES], counts[16], slots[16];
 static size_t size;
@@ -80,6 +80,20 @@ static void bundle_open(void) { kept = cqdb_bundle_open(file, 2 * size, 1).num; 
 static void bundle_count(void) { kept = cqdb_bundle_count(file, 2 * size).images; }
 static void sheet_write(void) { kept = cqdb_sheet_write(buf, sizeof buf, ids, 100, ids, 100, ids, 100).length; }
 static void sheet_read(void) { kept = cqdb_sheet_read(buf, 1206).refusal; }
+/* A round of 512 on a sheet of all ids. */
+static const cqdb_report *report(void) {
+    static cqdb_report all;
+    cqdb_report r = {image, size, image, size, sheet, sizeof sheet, ids, 512, ids, 8};
+    all = r;
+    return &all;
+}
+static void preflight(void) { kept = cqdb_preflight(report()).unsighted; }
+static void preflight_first(void) { kept = cqdb_preflight_first(report()).unsighted; }
+static void preflight_dates(void) {
+    cqdb_date date = {2024, 2, 29};
+    cqdb_window window = {0, {2024, 1, 1}, {2025, 1, 1}};
+    kept = cqdb_preflight_dates(&window, 1, ids, 1, date, date).question;
+}
 static void references_first(void) { kept = cqdb_references_first(pairs, 1, ids, NAMES).ok; }
 
 static const struct {
@@ -92,7 +106,7 @@ static const struct {
              {"index", index_}, {"put_indexed", put_indexed}, {"index_words", index_words}, {"close", close_}, {"build, 6 words for each name", build_refused}, {"build, 3 words for each name", build_3},
              {"build, no words, repeats on", build_on}, {"build, no words, repeats off", build_off}, {"load", load}, {"name_on", name_on},
              {"next_change", next_change}, {"moved", moved}, {"bundle_append", bundle_append}, {"bundle_open", bundle_open}, {"bundle_count", bundle_count}, {"sheet_write", sheet_write},
-             {"sheet_read", sheet_read}, {"references_first", references_first}};
+             {"sheet_read", sheet_read}, {"references_first", references_first}, {"preflight", preflight}, {"preflight_first", preflight_first}, {"preflight_dates", preflight_dates}};
 
 static void (*running)(void);
 
@@ -135,6 +149,7 @@ int main(void) {
     size = (size_t)kept;
     memcpy(image, buf, size);
     memcpy(file, buf, size);
+    cqdb_sheet_write(sheet, sizeof sheet, NULL, 0, ids, NAMES, NULL, 0);
     size_t least = changed(none);
     for (size_t i = 0; i < sizeof calls / sizeof *calls; i++) {
         size_t all = changed(calls[i].call);

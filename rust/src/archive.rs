@@ -210,6 +210,29 @@ pub struct OneToOneAnswer {
     pub offset: u32,
 }
 
+/// The first question that fails, 0 for yes, with the places and the id that show it; or how much a yes is about. All else is 0.
+#[repr(C)]
+#[derive(Clone, Copy, Debug, PartialEq, Eq)]
+pub struct PreflightAnswer {
+    pub question: u32,
+    pub refusal: u32,
+    pub id: u32,
+    pub place: u64,
+    pub other: u64,
+    pub compared: u64,
+    pub added: u64,
+    pub unsighted: u64,
+}
+
+/// Question 0 for yes, or 11 with the place in the round of the first id without a window; or the refusal.
+#[repr(C)]
+#[derive(Clone, Copy, Debug, PartialEq, Eq)]
+pub struct PreflightDatesAnswer {
+    pub question: u32,
+    pub refusal: u32,
+    pub place: u64,
+}
+
 /// size is the image's, and accepted the number of accepted puts.
 #[repr(C)]
 #[derive(Clone, Copy, Debug, PartialEq, Eq)]
@@ -348,6 +371,34 @@ extern "C" {
     fn cqdb_name_on(image: *const u8, len: usize, id: u32, date: Date, windows: *const Window, n: usize) -> OnAnswer;
     fn cqdb_next_change(old: *const u8, old_len: usize, new: *const u8, new_len: usize, from: u64) -> ChangeAnswer;
     fn cqdb_moved(old: *const u8, old_len: usize, new: *const u8, new_len: usize, id: u32) -> MovedAnswer;
+    fn cqdb_preflight_parts(
+        old: *const u8,
+        old_len: usize,
+        new: *const u8,
+        new_len: usize,
+        sheet: *const u8,
+        sheet_len: usize,
+        round: *const u32,
+        round_len: usize,
+        accepted: *const u32,
+        accepted_len: usize,
+    ) -> PreflightAnswer;
+    fn cqdb_preflight_first_parts(
+        new: *const u8,
+        new_len: usize,
+        sheet: *const u8,
+        sheet_len: usize,
+        round: *const u32,
+        round_len: usize,
+    ) -> PreflightAnswer;
+    fn cqdb_preflight_dates_words(
+        windows: *const u32,
+        words: usize,
+        round: *const u32,
+        round_len: usize,
+        last: Date,
+        date: Date,
+    ) -> PreflightDatesAnswer;
     fn cqdb_build_parts(
         mode: u32,
         repeats: u32,
@@ -634,6 +685,31 @@ pub fn next_change(old: &[u8], new: &[u8], from: u64) -> ChangeAnswer {
 pub fn moved(old: &[u8], new: &[u8], id: u32) -> MovedAnswer {
     // SAFETY: the images are each lent with their length, and are only read, so they may overlap; any id is taken.
     unsafe { cqdb_moved(old.as_ptr(), old.len(), new.as_ptr(), new.len(), id) }
+}
+
+/// May a report leave, whose ids `new` names, after one whose ids `old` named? Yes with its counts, or the first question that fails.
+pub fn preflight(old: &[u8], new: &[u8], sheet: &[u8], round: &[u32], accepted: &[u32]) -> PreflightAnswer {
+    let (old, old_len, new, new_len) = (old.as_ptr(), old.len(), new.as_ptr(), new.len());
+    let (sheet, sheet_len, ids, n) = (sheet.as_ptr(), sheet.len(), round.as_ptr(), round.len());
+    // SAFETY: images, sheet, round and accepted ids are each lent with their length, and are only read, so they may overlap.
+    unsafe {
+        cqdb_preflight_parts(old, old_len, new, new_len, sheet, sheet_len, ids, n, accepted.as_ptr(), accepted.len())
+    }
+}
+
+/// May a first report leave, whose ids `new` names?
+pub fn preflight_first(new: &[u8], sheet: &[u8], round: &[u32]) -> PreflightAnswer {
+    let (new, new_len, sheet, sheet_len) = (new.as_ptr(), new.len(), sheet.as_ptr(), sheet.len());
+    // SAFETY: image, sheet and round are each lent with their length, and are only read, so they may overlap.
+    unsafe { cqdb_preflight_first_parts(new, new_len, sheet, sheet_len, round.as_ptr(), round.len()) }
+}
+
+/// Has every id of the round a window that holds both dates? Or the refusal.
+pub fn preflight_dates(windows: &[Window], round: &[u32], last: Date, date: Date) -> PreflightDatesAnswer {
+    // A window is three words of 32 bits: the id, the first date and the end date, each date's year in its low half.
+    let (words, count) = (windows.as_ptr().cast(), 3 * windows.len());
+    // SAFETY: windows, three words each, and round are lent with their lengths and only read; Date is laid out as cqdb_date.
+    unsafe { cqdb_preflight_dates_words(words, count, round.as_ptr(), round.len(), last, date) }
 }
 
 /// Entries, quotient and remainder of the average search length, or the refusal.

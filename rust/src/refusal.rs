@@ -13,7 +13,7 @@ macro_rules! refusals {
         }
 
         impl Refusal {
-            fn from_number(number: u32) -> Refusal {
+            pub(crate) fn from_number(number: u32) -> Refusal {
                 match number {
                     $($number => Refusal::$name,)*
                     _ => unreachable!("the archive gives no refusal {number}"),

@@ -130,7 +130,6 @@ fn a_bundle_is_not_taken_for_an_image() {
         &["home", "walls", "0"],
         &["panel", "walls", "0"],
         &["ids", "walls", "A"],
-        &["preflight", "walls"],
     ] {
         folder.cqdb(command).gives(2).prints("").tells(&format!("cqdb: {}: {told}", command[0]));
     }

@@ -105,6 +105,33 @@ static void check_rounds(void) {
     expect(cqdb_sheet_read(file, 6).refusal == 0 && cqdb_sheet_read(NULL, 0).refusal == CQDB_TOO_FEW_BYTES, "sheet_read");
 }
 
+/* A report without bytes and ids; and one with an image and a sheet, in whose round no id is sighted. */
+static void check_reports(void) {
+    static uint8_t buf[4096];
+    static const uint32_t ids[1] = {3};
+    uint8_t sheet[6] = {0};
+    cqdb_date date = {2024, 2, 29}, no_date = {2023, 2, 29};
+    cqdb_report report;
+    cqdb_writer w;
+    memset(&report, 0, sizeof report);
+    expect(cqdb_preflight(&report).question == 1 && cqdb_preflight_first(&report).question == 1, "a report of no bytes");
+    expect(cqdb_begin(&w, CQDB_TWOWAY, buf, sizeof buf) == 0, "begin");
+    report.new_image = buf;
+    report.new_len = cqdb_close(&w, buf, sizeof buf).size;
+    cqdb_preflight_answer a = cqdb_preflight(&report);
+    expect(a.question == 2 && a.refusal == CQDB_TOO_FEW_BYTES, "a sheet of no bytes");
+    report.sheet = sheet;
+    report.sheet_len = 6;
+    expect(cqdb_preflight(&report).question == 4 && cqdb_preflight_first(&report).question == 4, "a round of no ids");
+    report.round = ids;
+    report.round_len = 1;
+    expect(cqdb_preflight(&report).question == 3, "an id that an empty sheet does not list");
+    cqdb_preflight_dates_answer d = cqdb_preflight_dates(NULL, 0, NULL, 0, date, date);
+    expect(d.question == 0 && d.refusal == 0 && d.place == 0, "dates of no windows and no ids");
+    expect(cqdb_preflight_dates(NULL, 0, ids, 1, date, date).question == 11, "dates of no windows");
+    expect(cqdb_preflight_dates(NULL, 0, NULL, 0, no_date, date).refusal == CQDB_NO_SUCH_DATE, "a date that does not exist");
+}
+
 static void check_bundles(void) {
     uint8_t buf[8] = {0};
     expect(cqdb_bundle_count(NULL, 0).refusal == 0 && cqdb_bundle_count(NULL, 0).images == 0, "an empty bundle");
@@ -120,6 +147,7 @@ int main(void) {
     check_indexes();
     check_rounds();
     check_bundles();
+    check_reports();
     printf("none: checked %u, %u wrong\n", checked, different);
     return different != 0;
 }

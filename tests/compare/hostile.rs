@@ -1,5 +1,5 @@
 // Hostile calls, to be run under valgrind: damaged images, random bytes, records that do not fit, broken buffers, pairs and rounds
-// of any ids, round sheets cut anywhere, broken bundles, any dates and windows, lists and outputs without room, buffers that grow or shrink, slots of any words, loads in buffers of any length. Everything lent
+// of any ids, round sheets cut anywhere, broken bundles, any dates and windows, reports over any of these, lists and outputs without room, buffers that grow or shrink, slots of any words, loads in buffers of any length. Everything lent
 // stands in a heap block of exactly its length, so that valgrind reports a read or write outside it. A refusal changes no byte,
 // reading changes none, and every place in an answer lies in what was lent.
 // hostile [CALLS | too-much]
@@ -35,6 +35,7 @@ struct Run {
     loads: u64,
     seasons: u64,
     pairs: u64,
+    reports: u64,
     lists: u64,
     slots: u64,
 }
@@ -416,10 +417,18 @@ impl Run {
             _ => false,
         };
         self.tally.rule(so, true, || format!("{answer:?} for {id} on {asked:?} by {windows:?}"));
+        let round: Box<[u32]> = (0..random.below(4)).map(|_| random.below(4) as u32).collect();
+        let held = archive::preflight_dates(&windows, &round, asked, if random.once_in(2) { asked } else { good(3) });
+        let so = match (held.refusal, held.question) {
+            (0, 11) => held.place < round.len() as u64,
+            (0 | 22 | 23, 0) => held.place == 0,
+            _ => false,
+        };
+        self.tally.rule(so, true, || format!("{held:?} for {round:?} by {windows:?}"));
         self.tally.rule(windows == before, true, || "windows that were read".into());
         self.tally.bytes(&image, bytes, || "an image that was asked on a date".into());
-        self.refused += u64::from(answer.refusal > 0);
-        self.calls += 2;
+        self.refused += u64::from(answer.refusal > 0) + u64::from(held.refusal > 0);
+        self.calls += 3;
         self.seasons += 1;
     }
 
@@ -444,6 +453,40 @@ impl Run {
         self.tally.bytes(&new, bytes.1, || "a new image that was compared".into());
         self.calls += 2;
         self.pairs += 1;
+    }
+
+    // Any two images, sheet and ids: a place lies in the round, the counts of a yes add up, and all that a question does not name is 0.
+    fn report(&mut self, random: &mut Random, bytes: (&[u8], &[u8])) {
+        let (old, new) = (exact(bytes.0), exact(bytes.1));
+        let ids = |random: &mut Random, most: usize| -> Box<[u32]> {
+            (0..random.below(most)).map(|_| if random.once_in(20) { random.word() } else { random.below(12) as u32 }).collect()
+        };
+        let listed: Vec<u32> = (0..12).filter(|_| !random.once_in(6)).collect();
+        let mut file = vec![0; 6 + 4 * listed.len()];
+        archive::sheet_write(&mut file, [&listed[..listed.len() / 3], &listed[listed.len() / 3..], &[]]);
+        if random.once_in(6) {
+            file.truncate(random.below(file.len()));
+        }
+        let (sheet, round, accepted) = (exact(&file), ids(random, 9), ids(random, 5));
+        let before = (sheet.clone(), round.clone(), accepted.clone());
+        let answers = [archive::preflight(&old, &new, &sheet, &round, &accepted), archive::preflight_first(&new, &sheet, &round)];
+        for (answer, most) in answers.iter().zip([10, 6]) {
+            let n = round.len() as u64;
+            let places = match answer.question {
+                6 => answer.place < n && answer.other < n,
+                3 | 5 | 9 | 10 => answer.place < n && answer.other == 0,
+                _ => (answer.place, answer.other) == (0, 0),
+            };
+            let counted = answer.compared + answer.added == if answer.question == 0 && most == 10 { n } else { 0 };
+            let rest = (answer.refusal > 0) == (answer.question == 2) && (answer.id == 0 || answer.question == 10);
+            let so = answer.question <= most && places && counted && rest && answer.unsighted <= 12;
+            self.tally.rule(so, true, || format!("{answer:?} of {round:?}"));
+        }
+        self.tally.rule((sheet, round, accepted) == before, true, || "what a report rests on".into());
+        self.tally.bytes(&old, bytes.0, || "the old image of a report".into());
+        self.tally.bytes(&new, bytes.1, || "the new image of a report".into());
+        self.calls += 2;
+        self.reports += 1;
     }
 
     fn unchanged(&mut self, (record, counts, buf): (archive::Record, &Counts, &[u8]), s: &State, what: &str) {
@@ -502,6 +545,7 @@ fn round(run: &mut Run, random: &mut Random) {
         run.season(random, image);
         let other = &images[random.below(images.len())];
         run.changes(random, (image, other));
+        run.report(random, (image, other));
         run.list(random);
     }
     let n = random.below(4000);
@@ -538,13 +582,13 @@ fn main() {
     let calls = std::env::args().nth(1).map_or(CALLS, |text| text.parse().expect("a number of calls"));
     let mut random = Random::new();
     println!("hostile: seed {}", random.seed);
-    let mut run = Run { tally: Tally::default(), calls: 0, refused: 0, images: 0, states: 0, rounds: 0, sheets: 0, bundles: 0, loads: 0, seasons: 0, pairs: 0, lists: 0, slots: 0, repeated: 0 };
+    let mut run = Run { tally: Tally::default(), calls: 0, refused: 0, images: 0, states: 0, rounds: 0, sheets: 0, bundles: 0, loads: 0, seasons: 0, pairs: 0, reports: 0, lists: 0, slots: 0, repeated: 0 };
     while run.calls < calls {
         round(&mut run, &mut random);
     }
     println!(
-        "hostile: {} calls on {} images, {} records with their buffers, {} rounds, {} sheets, {} bundles, {} loads, {} lists of windows, {} pairs of images, {} whole lists and {} lists of slots; {} refused, {} of them repeats; {} of {} checks failed",
-        run.calls, run.images, run.states, run.rounds, run.sheets, run.bundles, run.loads, run.seasons, run.pairs, run.lists, run.slots, run.refused, run.repeated, run.tally.different, run.tally.rule
+        "hostile: {} calls on {} images, {} records with their buffers, {} rounds, {} sheets, {} bundles, {} loads, {} lists of windows, {} pairs of images, {} reports, {} whole lists and {} lists of slots; {} refused, {} of them repeats; {} of {} checks failed",
+        run.calls, run.images, run.states, run.rounds, run.sheets, run.bundles, run.loads, run.seasons, run.pairs, run.reports, run.lists, run.slots, run.refused, run.repeated, run.tally.different, run.tally.rule
     );
     std::process::exit(i32::from(run.tally.different > 0));
 }

@@ -156,6 +156,15 @@ impl Args {
         }
     }
 
+    /// Fails where an option was given twice: which of the two is meant cannot be told.
+    pub fn none_twice(&self) -> Result<(), Failure> {
+        let twice = |at: usize| self.given[..at].iter().any(|(long, _)| *long == self.given[at].0);
+        match (0..self.given.len()).find(|at| twice(*at)) {
+            Some(at) => Err(Failure::new(format!("{} is given twice", self.given[at].0))),
+            None => Ok(()),
+        }
+    }
+
     /// The byte that ends a line.
     pub fn end(&self) -> u8 {
         if self.has(&ZERO) {

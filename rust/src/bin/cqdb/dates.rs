@@ -53,6 +53,14 @@ impl Windows {
         let name = db.name_on(id, self.date, &self.list[first..behind]).map_err(files::refused)?;
         Ok(name.map(|name| &**name))
     }
+
+    /// Has every id of a round a window that holds the date and another one, that of the last report?
+    pub fn hold_both(&self, last: Date, round: &[u32]) -> Result<cqdb::PreflightDates, Failure> {
+        // Windows and date were accepted before, so a refusal is about the other date.
+        cqdb::preflight_dates(&self.list, round, last, self.date).map_err(|refusal| {
+            Failure::new(format!("the date of the last report: {}", files::refusal_in_words(refusal)))
+        })
+    }
 }
 
 fn window_of(line: &[u8]) -> Option<Window> {

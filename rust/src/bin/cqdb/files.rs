@@ -76,7 +76,8 @@ pub fn cannot_read(path: &Path, error: io::Error) -> Failure {
     Failure::new(format!("cannot read {}: {error}", shown(path)))
 }
 
-fn read_whole(mut from: impl Read, path: &Path) -> Result<Vec<u8>, Failure> {
+/// All bytes of an input.
+pub fn read_whole(mut from: impl Read, path: &Path) -> Result<Vec<u8>, Failure> {
     const PIECE: usize = 1 << 16;
     let mut bytes = Vec::new();
     loop {
@@ -197,7 +198,7 @@ impl Source {
 }
 
 /// The parts of a path `FILE:POSITION`.
-fn position_of(path: &Path) -> Option<(PathBuf, u64)> {
+pub fn position_of(path: &Path) -> Option<(PathBuf, u64)> {
     let bytes = path.as_os_str().as_bytes();
     let at = bytes.iter().rposition(|byte| *byte == b':')?;
     let position = lines::id_of(&bytes[at + 1..])?;

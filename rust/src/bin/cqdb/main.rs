@@ -3,6 +3,7 @@
 mod alike;
 mod answers;
 mod args;
+mod asked;
 mod bundle;
 mod cdb;
 mod check;
@@ -26,18 +27,21 @@ mod list;
 mod load;
 mod make;
 mod making;
+mod memory;
 mod name;
 mod on;
 mod order;
 mod outcome;
 mod page;
 mod panel;
+mod positions;
 mod preflight;
 mod problem;
 mod progress;
 mod quadratic;
 mod questions;
 mod replace;
+mod report;
 mod sheet;
 mod stats;
 mod system;
@@ -62,6 +66,7 @@ const COMMANDS: &[&Command] = &[
     &page::COMMAND,
     &check::COMMAND,
     &preflight::COMMAND,
+    &report::COMMAND,
     &diff::COMMAND,
     &stats::COMMAND,
     &bundle::COMMAND,
