@@ -1,2 +1,2 @@
 """The version, that of the repository."""
-__version__ = "0.2.0"
+__version__ = "0.3.0"
