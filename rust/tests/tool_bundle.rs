@@ -99,7 +99,7 @@ fn appends_side_by_side() {
 fn a_bundle_that_is_locked() {
     let folder = folder();
     if folder.shell("command -v flock").status != Some(0) {
-        eprintln!("skipped: there is no program 'flock'");
+        tool::skipped("there is no program 'flock'");
         return;
     }
     folder.cqdb(&["bundle", "append", "walls", "north"]).gives(0);

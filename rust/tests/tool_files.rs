@@ -166,7 +166,7 @@ fn a_hundred_thousand_names() {
 fn progress_on_a_terminal() {
     let folder = Folder::new();
     if folder.shell("command -v script").status != Some(0) {
-        eprintln!("skipped: there is no program 'script' to give a terminal");
+        tool::skipped("there is no program 'script' to give a terminal");
         return;
     }
     let list = "(seq 0 4999 | sed 's/.*/& prism &/'; sleep 0.7; seq 5000 9999 | sed 's/.*/& prism &/')";
@@ -186,7 +186,7 @@ fn progress_on_a_terminal() {
 fn questions_from_a_terminal() {
     let folder = Folder::new();
     if folder.shell("command -v script").status != Some(0) {
-        eprintln!("skipped: there is no program 'script' to give a terminal");
+        tool::skipped("there is no program 'script' to give a terminal");
         return;
     }
     folder.image("image", "0 north wall\n1 crane\n");

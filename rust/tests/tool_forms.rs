@@ -284,7 +284,7 @@ fn tables_with_tabs_and_objects() {
 fn names_on_a_terminal() {
     let folder = Folder::new();
     if folder.shell("command -v script").status != Some(0) {
-        eprintln!("skipped: there is no program 'script' to give a terminal");
+        tool::skipped("there is no program 'script' to give a terminal");
         return;
     }
     let name = "a\u{1b}[2Jb\rc\u{9b}d\u{202e}e\u{7f}\u{7}Süd";

@@ -92,7 +92,7 @@ fn for_another_user() -> Option<Folder> {
     let folder = Folder::new();
     let setpriv = folder.shell("[ \"$(id -u)\" = 0 ] && command -v setpriv").status == Some(0);
     if !setpriv {
-        eprintln!("skipped: this needs root and the program 'setpriv'");
+        tool::skipped("this needs root and the program 'setpriv'");
         return None;
     }
     fs::copy(TOOL, folder.0.join("cqdb")).unwrap();
@@ -248,7 +248,7 @@ fn as_process_1() {
     let folder = Folder::new();
     let unshare = "unshare --user --map-root-user --pid --fork --mount-proc";
     if folder.shell(&format!("{unshare} true")).status != Some(0) {
-        eprintln!("skipped: 'unshare' cannot make a container here");
+        tool::skipped("'unshare' cannot make a container here");
         return;
     }
     folder.write("image.1.new", "of an earlier version");
@@ -269,7 +269,7 @@ fn a_move_that_fails() {
                 echo \"2 new\" | \"$CQDB\" make image'";
     let ran = folder.shell(line);
     if ran.status == Some(77) || ran.err.starts_with("unshare: ") {
-        eprintln!("skipped: 'unshare' cannot mount here");
+        tool::skipped("'unshare' cannot mount here");
         return;
     }
     let ran = ran.gives(2).prints("");

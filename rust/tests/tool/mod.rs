@@ -7,6 +7,16 @@ use std::sync::atomic::{AtomicU32, Ordering};
 
 pub const TOOL: &str = env!("CARGO_BIN_EXE_cqdb");
 
+/// A test that cannot run here says why. The gate counts these lines: CQDB_SKIPPED names its list (tests/skip.sh).
+#[allow(dead_code)]
+pub fn skipped(why: &str) {
+    eprintln!("skipped: {why}");
+    if let Some(list) = std::env::var_os("CQDB_SKIPPED") {
+        let mut list = fs::OpenOptions::new().append(true).open(list).unwrap();
+        writeln!(list, "a test of the tool: {why}").unwrap();
+    }
+}
+
 /// A folder that is removed in the end.
 pub struct Folder(pub PathBuf);
 
