@@ -80,11 +80,11 @@ module _ (mode : Mode) (es : List Entry) (each : All Storable es) (fits : imageS
   flags = flag-of-image mode es (ids-of es each) fits
 
   two-is : twoWay img ≡ isTwo mode
-  two-is = ap (λ (w : ℕ). eqb w 0) (ip .flag) ∙ go mode
+  two-is = ap (λ (w : ℕ). eqb w 0) (ip .flag) ∙ flag-two mode
     where
-      go : (f : Mode) → eqb (flagWord f) 0 ≡ isTwo f
-      go Twoway = refl
-      go Oneway = refl
+      flag-two : (f : Mode) → eqb (flagWord f) 0 ≡ isTwo f
+      flag-two Twoway = refl
+      flag-two Oneway = refl
 
   ends : endIn img n ≡ entriesEnd es
   unfolding n

@@ -1,23 +1,21 @@
 -- The checks behind the head, those of the head, and what all of them decide. Assumes nothing.
-use Prim.Native.Nat.{ℕ, _+_, _*_, _-_, _≤_, _<_}
+use Prim.Native.Nat.{ℕ, _+_, _*_, _-_, _≤_}
 use native.Mathlib.Omega.{arith}
-use mathlib.Core.Path.{_≡_, refl, sym, ap, ap₂, _∙_}
+use mathlib.Core.Path.{_≡_, refl, sym, _∙_}
 use mathlib.Core.Bool.{Bool, true, false, cond, _&&_}
 use mathlib.Core.List.{List}
 use lib.ListN.{length, replicate}
 use lib.Dec.{eqb}
 use borrow.Author.Tests.{eq-eqb, ne-eqb, eqb-true}
-use Rattle.jhash.specs.Outcome.{Outcome, value, refusal}
+use Rattle.jhash.specs.Outcome.{value, refusal}
 use Rattle.image.specs.Bytes.{word}
 use Rattle.image.specs.Head.{backSizeAt, backOffsetAt}
 use Rattle.image.specs.Image.{headSize, backSize, backIn}
 use Rattle.image.specs.Stored.{whole, entriesIn, between}
 use Rattle.image.specs.Tally.{tallied}
 use Rattle.image.proofs.EntryArea.{AllBytes}
-use Rattle.image.proofs.Bools.{false-not-true, and-first, and-second, and-both}
+use Rattle.image.proofs.Bools.{false-not-true, and-first, and-second}
 use Rattle.reader.specs.Open.{opening}
-use Rattle.image.specs.declared.Mode.the-variants.{Twoway, Oneway}
-use Rattle.canonical.specs.steps.Made.{Made}
 use Rattle.canonical.specs.Canonical.{canonical, modeIn}
 use Rattle.canonical.specs.steps.Checks.{endIn, rowsOk, countsMatch, twoWay, entriesOk, linksCounted, Checked, placedFrom, bodyOk}
 use Rattle.canonical.proofs.ReadBack.{canonical-yes, canonical-only}
@@ -114,11 +112,11 @@ passes : (img : List ℕ) → AllBytes img → canonical img ≡ true → (m : �
 passes img bytes holds = let made = canonical-only img bytes holds in (length (made .puts), canonical-checked img made)
 
 not-canonical : (img : List ℕ) → (canonical img ≡ true → ⊥) → false ≡ canonical img
-not-canonical img d = go (canonical img) refl
+not-canonical img d = answer-false (canonical img) refl
   where
-    go : (r : Bool) → canonical img ≡ r → false ≡ r
-    go false e = refl
-    go true e = absurd (d e)
+    answer-false : (r : Bool) → canonical img ≡ r → false ≡ r
+    answer-false false e = refl
+    answer-false true e = absurd (d e)
 
 pub never-opened : (img : List ℕ) (k : ℕ) → opening img ≡ refusal k → AllBytes img → false ≡ canonical img
 never-opened img k e bytes = not-canonical img (λ holds. let (m, c) = passes img bytes holds in differ m (sym e ∙ c .opened))
@@ -138,11 +136,11 @@ module _ (img : List ℕ) (n : ℕ) (bytes : AllBytes img) (opened : opening img
   pub decided : (end back : ℕ) → word img 4 ≡ length img → word img 8 ≤ 1 → back ≡ backSizeAt img → headSize + (16 * n + 4 * back) ≤ length img
       → end ≡ length img - (16 * n + 4 * back) → backOffsetAt img ≡ cond (eqb back 0) 0 (end + 16 * n)
       → (r : Bool) → r ≡ bodyOk img n end back → r ≡ canonical img
-  decided end back size flag eb room ee offset r er = go r (rw (ee, eb) at offset) (rw (ee, eb) at er)
+  decided end back size flag eb room ee offset r er = by-answer r (rw (ee, eb) at offset) (rw (ee, eb) at er)
     where
-      go : (r : Bool) → backOffsetAt img ≡ cond (eqb (backSizeAt img) 0) 0 (endIn img n + 16 * n) → r ≡ bodyOk img n (endIn img n) (backSizeAt img)
+      by-answer : (r : Bool) → backOffsetAt img ≡ cond (eqb (backSizeAt img) 0) 0 (endIn img n + 16 * n) → r ≡ bodyOk img n (endIn img n) (backSizeAt img)
           → r ≡ canonical img
-      go true offset e =
+      by-answer true offset e =
           let t = body-facts img n (endIn img n) (backSizeAt img) (sym e) in
           sym (canonical-yes img
           (checked-made img n bytes
@@ -159,7 +157,7 @@ module _ (img : List ℕ) (n : ℕ) (bytes : AllBytes img) (opened : opening img
             entries = t .entries;
             links = t .links;
           }))
-      go false offset e =
+      by-answer false offset e =
           refuse
           (λ c. false-not-true (e ∙ body-checked img n (endIn img n) (backSizeAt img)
           record { wholes = c .wholes; backs = c .back-size; rows = c .rows; counts = c .counts; entries = c .entries; links = c .links }))

@@ -61,18 +61,18 @@ module _ {P : ℕ → List Entry → Type 0} {img : List ℕ} where
 
   module _ {at left : ℕ} (w : Ahead P img at left) where
     pub ahead-ends : left ≡ 0 → P at []
-    ahead-ends z = go (w .entries) (w .number) (w .holds)
+    ahead-ends z = none-ahead (w .entries) (w .number) (w .holds)
       where
-        go : (es : List Entry) → length es ≡ left → P at es → P at []
-        go [] n p = p
-        go (e ∷ es) n p = absurd (omega arith)
+        none-ahead : (es : List Entry) → length es ≡ left → P at es → P at []
+        none-ahead [] n p = p
+        none-ahead (e ∷ es) n p = absurd (omega arith)
 
     pub turn : 0 < left → Turn P img at left
-    turn more = go (w .entries) (w .number) (w .there) (w .words) (w .holds)
+    turn more = first-ahead (w .entries) (w .number) (w .there) (w .words) (w .holds)
       where
-        go : (es : List Entry) → length es ≡ left → At img at (cat entryBytes es) → AllWordSized es → P at es → Turn P img at left
-        go [] n a s p = absurd (omega arith)
-        go (e ∷ es) n a s p =
+        first-ahead : (es : List Entry) → length es ≡ left → At img at (cat entryBytes es) → AllWordSized es → P at es → Turn P img at left
+        first-ahead [] n a s p = absurd (omega arith)
+        first-ahead (e ∷ es) n a s p =
             record { entry = e; rest = es; number = n; there = at-equal (cat-cons entryBytes e es) a; words = s; short = w .short; holds = p }
 
   module _ {at left : ℕ} (t : Turn P img at left) where

@@ -28,11 +28,11 @@ use Rattle.canonical.proofs.Concatenation.{getD-bucketsInPlace, length-
 -- ---- an entry in its table
 
 hide-at : (a : ℕ) (b : Bucket) → hide a b .at ≡ hidden a (b .at)
-hide-at a b = go (ltb (b .at) a)
+hide-at a b = same-offset (ltb (b .at) a)
   where
-    go : (t : Bool) → cond t b empty .at ≡ cond t (b .at) 0
-    go true = refl
-    go false = refl
+    same-offset : (t : Bool) → cond t b empty .at ≡ cond t (b .at) 0
+    same-offset true = refl
+    same-offset false = refl
 
 module _ (img : List ℕ) (b : Bucket) where
   -- its table, as it is read
@@ -121,12 +121,12 @@ module _ (img : List ℕ) (two : Bool) (o : ℕ) where
 pub to-table : (P : Placed → Type 0) (t : ℕ) (ps : List Placed) → All P ps → All (λ (p : Placed). P p × (tableOf (hashOf (p .entry .name)) ≡ t)) (ofTable t ps)
 unfolding ofTable filter
 to-table P t [] a = tt
-to-table P t (p ∷ ps) a = go (inTable t p) refl (to-table P t ps (a .1))
+to-table P t (p ∷ ps) a = with-first (inTable t p) refl (to-table P t ps (a .1))
   where
-    go : (b : Bool) → inTable t p ≡ b → All (λ (p : Placed). P p × (tableOf (hashOf (p .entry .name)) ≡ t)) (filter (inTable t) ps)
+    with-first : (b : Bool) → inTable t p ≡ b → All (λ (p : Placed). P p × (tableOf (hashOf (p .entry .name)) ≡ t)) (filter (inTable t) ps)
         → All (λ (p : Placed). P p × (tableOf (hashOf (p .entry .name)) ≡ t)) (cond b (p ∷ filter (inTable t) ps) (filter (inTable t) ps))
-    go true e rest = ((a .0, eqb-true (tableOf (hashOf (p .entry .name))) t e), rest)
-    go false e rest = rest
+    with-first true e rest = ((a .0, eqb-true (tableOf (hashOf (p .entry .name))) t e), rest)
+    with-first false e rest = rest
 
 pub from-tables : (Q : ℕ → Placed → Type 0) (ps : List Placed) → ((t : ℕ) → t < 256 → All (Q t) (ofTable t ps))
     → All (λ (p : Placed). Q (tableOf (hashOf (p .entry .name))) p) ps

@@ -25,22 +25,22 @@ use Rattle.canonical.proofs.HiddenBuckets.{hide-shows, hide-hides, hide
 first-found : (at : ℕ → ℕ) (ks : List ℕ) (i : ℕ) → i < length ks → at (getD ks i 0) ≡ 0 → at (firstEmpty at ks) ≡ 0
 unfolding firstEmpty
 first-found at [] i h z = absurd (omega arith)
-first-found at (k ∷ ks) i h z = go (eqb (at k) 0) refl i h z (λ j l y. first-found at ks j l y)
+first-found at (k ∷ ks) i h z = found-from (eqb (at k) 0) refl i h z (λ j l y. first-found at ks j l y)
   where
-    go : (t : Bool) → eqb (at k) 0 ≡ t → (i : ℕ) → i < length (k ∷ ks) → at (getD (k ∷ ks) i 0) ≡ 0
+    found-from : (t : Bool) → eqb (at k) 0 ≡ t → (i : ℕ) → i < length (k ∷ ks) → at (getD (k ∷ ks) i 0) ≡ 0
         → ((j : ℕ) → j < length ks → at (getD ks j 0) ≡ 0 → at (firstEmpty at ks) ≡ 0) → at (cond t k (firstEmpty at ks)) ≡ 0
-    go true e i h z rest = eqb-true (at k) 0 e
-    go false e zero h z rest = absurd (eqb-false (at k) 0 e z)
-    go false e (suc i) h z rest = rest i (omega arith) z
+    found-from true e i h z rest = eqb-true (at k) 0 e
+    found-from false e zero h z rest = absurd (eqb-false (at k) 0 e z)
+    found-from false e (suc i) h z rest = rest i (omega arith) z
 
 pub first-below : (at : ℕ → ℕ) (ks : List ℕ) (n : ℕ) → 0 < n → ((i : ℕ) → i < length ks → getD ks i 0 < n) → firstEmpty at ks < n
 unfolding firstEmpty
 first-below at [] n p h = p
-first-below at (k ∷ ks) n p h = go (eqb (at k) 0) (first-below at ks n p (λ i l. h (suc i) (omega arith)))
+first-below at (k ∷ ks) n p h = either-below (eqb (at k) 0) (first-below at ks n p (λ i l. h (suc i) (omega arith)))
   where
-    go : (t : Bool) → firstEmpty at ks < n → cond t k (firstEmpty at ks) < n
-    go true rest = h 0 (omega arith)
-    go false rest = rest
+    either-below : (t : Bool) → firstEmpty at ks < n → cond t k (firstEmpty at ks) < n
+    either-below true rest = h 0 (omega arith)
+    either-below false rest = rest
 
 -- the buckets of a probe sequence
 pub order-inside : (h n : ℕ) → 0 < n → (i : ℕ) → i < length (probeSequence n n (start h n)) → getD (probeSequence n n (start h n)) i 0 < n

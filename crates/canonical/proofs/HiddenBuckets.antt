@@ -24,11 +24,11 @@ pub hide-hides : (a : ℕ) (b : Bucket) → a ≤ b .at → hide a b ≡ empty
 hide-hides a b h = rw (le-ltb (b .at) a h)
 
 pub hide-empty : (a : ℕ) → hide a empty ≡ empty
-hide-empty a = go (ltb 0 a)
+hide-empty a = either-empty (ltb 0 a)
   where
-    go : (t : Bool) → cond t empty empty ≡ empty
-    go true = refl
-    go false = refl
+    either-empty : (t : Bool) → cond t empty empty ≡ empty
+    either-empty true = refl
+    either-empty false = refl
 
 pub getD-hideFrom : (a : ℕ) (table : List Bucket) (k : ℕ) → getD (hideFrom a table) k empty ≡ hide a (getD table k empty)
 unfolding hideFrom

@@ -92,11 +92,11 @@ module _ (mode : Mode) (es : List Entry) (fits : imageSize mode es ≤ 429496729
   -- the links of a two-way image
   links-in : LinksIn mode img es
   unfolding img
-  links-in = go mode fits
+  links-in = links-by-mode mode fits
     where
-      go : (f : Mode) → imageSize f es ≤ 4294967295 → LinksIn f (image f es) es
-      go Oneway h = tt
-      go Twoway h =
+      links-by-mode : (f : Mode) → imageSize f es ≤ 4294967295 → LinksIn f (image f es) es
+      links-by-mode Oneway h = tt
+      links-by-mode Twoway h =
           links-match (wordsAt (image Twoway es) o n) (placed headSize es) (rising-less 1 headSize (offsets (placed headSize es)) (omega arith) (rises headSize es))
           (rw (length-wordsAt (image Twoway es) o n) (all-placed (λ (e : Entry). e .id < n) headSize es (ids-below es n (omega arith))))
           (λ i l. let m : i < n = rw (length-wordsAt (image Twoway es) o n) at l in

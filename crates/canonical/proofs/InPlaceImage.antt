@@ -149,12 +149,12 @@ module _ (img : List ℕ) (mode : Mode) (es : List Entry) (bytes : AllBytes img)
 
   all-links : At img (entriesEnd es + 16 * length es) (backWords ps (backSizeOf mode es))
   unfolding backWords ps cat range
-  all-links = go mode (ip .total) (ip .linked)
+  all-links = links-by-mode mode (ip .total) (ip .linked)
     where
-      go : (f : Mode) → length img ≡ imageSize f es → LinksIn f img es
+      links-by-mode : (f : Mode) → length img ≡ imageSize f es → LinksIn f img es
           → At img (entriesEnd es + 16 * length es) (cat (λ (i : ℕ). le32 (backWord (placed headSize es) i)) (range 0 (backSizeOf f es)))
-      go Oneway e k = at-nothing img (entriesEnd es + 16 * length es)
-      go Twoway e k =
+      links-by-mode Oneway e k = at-nothing img (entriesEnd es + 16 * length es)
+      links-by-mode Twoway e k =
           at-parts (λ (i : ℕ). le32 (backWord (placed headSize es) i)) 4 (λ i. length-le32 (backWord (placed headSize es) i)) o (range 0 (backSizeOf Twoway es)) 0 each
         where
           o : ℕ

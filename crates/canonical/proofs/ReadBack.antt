@@ -84,11 +84,11 @@ module _ (mode : Mode) (es : List Entry) (ids : WordIds es) (fits : imageSize mo
       ∙ parsed-front es (a .post) (all-wordly es ids (omega arith))
 
   pub flag-of-image : modeIn (image mode es) ≡ mode
-  flag-of-image = ap (λ (w : ℕ). cond (eqb w 0) Twoway Oneway) (flag-image mode es) ∙ go mode
+  flag-of-image = ap (λ (w : ℕ). cond (eqb w 0) Twoway Oneway) (flag-image mode es) ∙ flag-mode mode
     where
-      go : (f : Mode) → cond (eqb (flagWord f) 0) Twoway Oneway ≡ f
-      go Twoway = refl
-      go Oneway = refl
+      flag-mode : (f : Mode) → cond (eqb (flagWord f) 0) Twoway Oneway ≡ f
+      flag-mode Twoway = refl
+      flag-mode Oneway = refl
 
 -- in a two-way image the size bounds the ids
 pub word-ids : (es : List Entry) (n : ℕ) → backSize es ≤ n → n ≤ 2 ^ 32 → WordIds es

@@ -94,11 +94,11 @@ unfolding word le32 headBytes
 an-offset = refl
 
 offset-not : canonical (headBytes 2072 0 0 2072 ++ replicate 2048 0) ≡ false
-offset-not = go (canonical (headBytes 2072 0 0 2072 ++ replicate 2048 0)) refl
+offset-not = answer-false (canonical (headBytes 2072 0 0 2072 ++ replicate 2048 0)) refl
   where
-    go : (r : Bool) → canonical (headBytes 2072 0 0 2072 ++ replicate 2048 0) ≡ r → r ≡ false
-    go false e = refl
-    go true e =
+    answer-false : (r : Bool) → canonical (headBytes 2072 0 0 2072 ++ replicate 2048 0) ≡ r → r ≡ false
+    answer-false false e = refl
+    answer-false true e =
         let bytes = headBytes 2072 0 0 2072 ++ replicate 2048 0 in
         let all : AllBytes bytes = bytes-behind (headBytes 2072 0 0 2072) (replicate 2048 0) head-bytes (λ i. rw (zeros 2048 i) (lit< tt)) in
         let made = canonical-only bytes all e in

@@ -31,17 +31,17 @@ pub record Opens (img : List ℕ) : Type 0 where
 pub opens : (img : List ℕ) (n : ℕ) → opening img ≡ value n → Opens img
 unfolding opening
 opens img n e =
-    go (ltb (length img) 2072) refl (hasLetters img) refl (eqb (word img 12) 0x62445371) refl
+    checks-passed (ltb (length img) 2072) refl (hasLetters img) refl (eqb (word img 12) 0x62445371) refl
     (somePastEnd img 0 256) refl (cond (ltb 0 (backOffsetAt img) && backPastEnd img) (refusal 8) (value (numFrom img 0 256 % 2 ^ 32))) e
   where
-    go : (a : Bool) → ltb (length img) 2072 ≡ a → (b : Bool) → hasLetters img ≡ b → (c : Bool) → eqb (word img 12) 0x62445371 ≡ c
+    checks-passed : (a : Bool) → ltb (length img) 2072 ≡ a → (b : Bool) → hasLetters img ≡ b → (c : Bool) → eqb (word img 12) 0x62445371 ≡ c
         → (d : Bool) → somePastEnd img 0 256 ≡ d → (rest : Outcome ℕ)
         → cond a (refusal 1) (cond (not b) (refusal 5) (cond (not c) (refusal 6) (cond d (refusal 7) rest))) ≡ value n → Opens img
-    go true p b q c r d s rest e = let z : _≡_ {A = ℕ} 0 1 = cc in absurd (omega arith)
-    go false p false q c r d s rest e = let z : _≡_ {A = ℕ} 0 1 = cc in absurd (omega arith)
-    go false p true q false r d s rest e = let z : _≡_ {A = ℕ} 0 1 = cc in absurd (omega arith)
-    go false p true q true r true s rest e = let z : _≡_ {A = ℕ} 0 1 = cc in absurd (omega arith)
-    go false p true q true r false s rest e =
+    checks-passed true p b q c r d s rest e = let z : _≡_ {A = ℕ} 0 1 = cc in absurd (omega arith)
+    checks-passed false p false q c r d s rest e = let z : _≡_ {A = ℕ} 0 1 = cc in absurd (omega arith)
+    checks-passed false p true q false r d s rest e = let z : _≡_ {A = ℕ} 0 1 = cc in absurd (omega arith)
+    checks-passed false p true q true r true s rest e = let z : _≡_ {A = ℕ} 0 1 = cc in absurd (omega arith)
+    checks-passed false p true q true r false s rest e =
         record { long = ltb-false (length img) 2072 p; letters = q; order = eqb-true (word img 12) 0x62445371 r; tables = s }
 
 none-past-end : (img : List ℕ) (t m k : ℕ) → somePastEnd img t m ≡ false → t ≤ k → k < t + m → 0 < tableAt img k
@@ -49,12 +49,12 @@ none-past-end : (img : List ℕ) (t m k : ℕ) → somePastEnd img t m ≡ false
 unfolding somePastEnd
 none-past-end img t zero k e l h some = absurd (omega arith)
 none-past-end img t (suc m) k e l h some = elim (ℕ-discrete t k) [
-  | yes y ↦ go (rw y at e)
+  | yes y ↦ inside-here (rw y at e)
   | no d ↦ none-past-end img (suc t) m k (or-false-second (ltb 0 (tableAt img t) && tablePastEnd img t) (somePastEnd img (suc t) m) e) (omega arith) (omega arith) some
 ]
   where
-    go : ((ltb 0 (tableAt img k) && tablePastEnd img k) || somePastEnd img (suc k) m) ≡ false → tableAt img k + 8 * bucketNumber img k ≤ length img
-    go f =
+    inside-here : ((ltb 0 (tableAt img k) && tablePastEnd img k) || somePastEnd img (suc k) m) ≡ false → tableAt img k + 8 * bucketNumber img k ≤ length img
+    inside-here f =
         let x = or-false-first (ltb 0 (tableAt img k) && tablePastEnd img k) (somePastEnd img (suc k) m) f in
         let y = sym (ap (λ (b : Bool). b && tablePastEnd img k) (lt-ltb 0 (tableAt img k) some)) ∙ x in
         ltb-false (length img) (tableAt img k + 8 * bucketNumber img k) y
@@ -167,11 +167,11 @@ module _ (img : List ℕ) where
     rows-facts t zero k h i l = absurd (omega arith)
     rows-facts t (suc m) k h i l =
         let (r, rest) = row-facts (pos t) t m h in
-        go i l r (rows-facts (suc t) m (omega arith) (ap (λ (o : ℕ). rowsOk img o (suc t) m) (grow t (omega arith)) ∙ rest))
+        first-or-later i l r (rows-facts (suc t) m (omega arith) (ap (λ (o : ℕ). rowsOk img o (suc t) m) (grow t (omega arith)) ∙ rest))
       where
-        go : (i : ℕ) → i < suc m → Row img (pos t) t → ((j : ℕ) → j < m → Row img (pos (suc t + j)) (suc t + j)) → Row img (pos (t + i)) (t + i)
-        go zero l r rest = let z : t ≡ t + 0 = omega arith in rw z at r
-        go (suc j) l r rest = let z : suc t + j ≡ t + suc j = omega arith in rw z at (rest j (omega arith))
+        first-or-later : (i : ℕ) → i < suc m → Row img (pos t) t → ((j : ℕ) → j < m → Row img (pos (suc t + j)) (suc t + j)) → Row img (pos (t + i)) (t + i)
+        first-or-later zero l r rest = let z : t ≡ t + 0 = omega arith in rw z at r
+        first-or-later (suc j) l r rest = let z : suc t + j ≡ t + suc j = omega arith in rw z at (rest j (omega arith))
 
     pub rows-checked : (t m : ℕ) → t + m ≤ 256 → ((i : ℕ) → i < m → Row img (pos (t + i)) (t + i)) → rowsOk img (pos t) t m ≡ true
     unfolding rowsOk

@@ -6,7 +6,7 @@ use mathlib.Core.Path.{_≡_, refl, sym, ap, ap₂, _∙_}
 use mathlib.Core.Bool.{Bool, true, false, cond, _&&_}
 use mathlib.Core.List.{List, map}
 use lib.ListN.{length, getD}
-use lib.Dec.{eqb, leb}
+use lib.Dec.{eqb}
 use borrow.Author.Tests.{eq-eqb, ne-eqb}
 use Rattle.image.specs.Bytes.{word, range, all}
 use Rattle.image.specs.Head.{tableAt, bucketNumber}
@@ -15,6 +15,7 @@ use Rattle.canonical.specs.steps.HiddenBuckets.{bit, countAtLeast}
 use Rattle.canonical.specs.steps.InPlace.{wordsAt}
 use Rattle.canonical.specs.steps.Checks.{clean, usedIn, tableOk, rowCount, rowsOk, countsMatch, TablesInside}
 use Rattle.canonical.specs.steps.Contracts.{CheckRowsPre}
+use Rattle.canonical.proofs.CountAtLeast.{bit-at-most}
 
 -- ---- how many of a run of words are not zero
 
@@ -35,11 +36,7 @@ module _ (f : ℕ → ℕ) where
   run-next k n u b x h z e = let t = run-turn k n h in omega arith
 
   pub bit-most : (k b : ℕ) → b ≡ bit 1 (f k) → b ≤ 1
-  bit-most k b e = rw e (go (leb 1 (f k)))
-    where
-      go : (t : Bool) → cond t 1 0 ≤ 1
-      go true = omega arith
-      go false = omega arith
+  bit-most k b e = rw e (bit-at-most 1 (f k))
 
   pub run-end : (k n u x : ℕ) → k ≡ n → u + countAtLeast 1 (map f (range k (n - k))) ≡ x → u ≡ x
   unfolding countAtLeast range

@@ -1,5 +1,5 @@
 -- The decision is the rule, and what holds of canonical images. Assumes nothing.
-use Prim.Native.Nat.{ℕ, _+_, _-_, _≤_, _<_}
+use Prim.Native.Nat.{ℕ, _-_, _≤_, _<_}
 use native.Mathlib.Omega.{arith}
 use mathlib.Core.Path.{_≡_, refl, sym, ap, _∙_}
 use mathlib.Core.Bool.{Bool, true, false}
@@ -86,11 +86,11 @@ module _ (img : List ℕ) (m : Made img) where
       rw (all, closed) at (list-read (m .mode) On img (made-room img m img room) (putAll (m .puts)) (words (m .mode) (m .puts) (m .each)))
 
   made-agrees : readingsAgree img ≡ true
-  made-agrees = sym (ap readingsAgree (made-closes img m img room)) ∙ go (m .mode) (words (m .mode) (m .puts) (m .each))
+  made-agrees = sym (ap readingsAgree (made-closes img m img room)) ∙ agrees-in (m .mode) (words (m .mode) (m .puts) (m .each))
     where
-      go : (mode : Mode) → WordIds mode (putAll (m .puts)) → readingsAgree (imageOf mode On img (putAll (m .puts))) ≡ true
-      go Twoway w = readings .two-way On img (putAll (m .puts)) (made-room img m img room)
-      go Oneway w = readings .one-way On img (putAll (m .puts)) (made-room img m img room) w
+      agrees-in : (mode : Mode) → WordIds mode (putAll (m .puts)) → readingsAgree (imageOf mode On img (putAll (m .puts))) ≡ true
+      agrees-in Twoway w = readings .two-way On img (putAll (m .puts)) (made-room img m img room)
+      agrees-in Oneway w = readings .one-way On img (putAll (m .puts)) (made-room img m img room) w
 
   made-homes : (id : ℕ) (name : List ℕ) → nameGiven img id ≡ some name → home img id ≡ true
   made-homes id name h = read .id-home id ∙ ap isNamed (sym (read .id-gives id) ∙ h)

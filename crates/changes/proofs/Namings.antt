@@ -63,21 +63,21 @@ alike-exactly old new id =
     ((λ e. same-equal (nameGiven old id) (nameGiven new id) (not-false _ e)), (λ e. ap not (equal-same (nameGiven old id) (nameGiven new id) e)))
 
 pub differs-exactly : (old new : List ℕ) (id : ℕ) → (differs old new id ≡ true) ↔ ¬ (nameGiven old id ≡ nameGiven new id)
-differs-exactly old new id = ((λ e q. false-not-true (sym (alike-exactly old new id .1 q) ∙ e)), (λ h. go h (differs old new id) refl))
+differs-exactly old new id = ((λ e q. false-not-true (sym (alike-exactly old new id .1 q) ∙ e)), (λ h. answer-true h (differs old new id) refl))
   where
-    go : ¬ (nameGiven old id ≡ nameGiven new id) → (t : Bool) → differs old new id ≡ t → t ≡ true
-    go h true e = refl
-    go h false e = absurd (h (alike-exactly old new id .0 e))
+    answer-true : ¬ (nameGiven old id ≡ nameGiven new id) → (t : Bool) → differs old new id ≡ t → t ≡ true
+    answer-true h true e = refl
+    answer-true h false e = absurd (h (alike-exactly old new id .0 e))
 
 -- the order of the images does not matter
 same-names-sym : (a b : Option (List ℕ)) → equalNamings a b ≡ equalNamings b a
-same-names-sym a b = go (equalNamings a b) (equalNamings b a) refl refl
+same-names-sym a b = same-answer (equalNamings a b) (equalNamings b a) refl refl
   where
-    go : (s t : Bool) → equalNamings a b ≡ s → equalNamings b a ≡ t → s ≡ t
-    go true true p q = refl
-    go false false p q = refl
-    go true false p q = absurd (false-not-true (sym q ∙ equal-same b a (sym (same-equal a b p))))
-    go false true p q = absurd (false-not-true (sym p ∙ equal-same a b (sym (same-equal b a q))))
+    same-answer : (s t : Bool) → equalNamings a b ≡ s → equalNamings b a ≡ t → s ≡ t
+    same-answer true true p q = refl
+    same-answer false false p q = refl
+    same-answer true false p q = absurd (false-not-true (sym q ∙ equal-same b a (sym (same-equal a b p))))
+    same-answer false true p q = absurd (false-not-true (sym p ∙ equal-same a b (sym (same-equal b a q))))
 
 pub differs-sym : (old new : List ℕ) (id : ℕ) → differs new old id ≡ differs old new id
 unfolding differs
@@ -107,14 +107,14 @@ upper-sym old new = omega arith
 -- at the upper hint and above it an image names nothing
 pub above : (image : List ℕ) (id : ℕ) → upperHint image 0 ≤ id → naming image id ≡ unnamed
 unfolding upperHint naming
-above image id h = go (noBack image) h
+above image id h = unnamed-above (noBack image) h
   where
     at : Naming
     at = namingAt image (word image (backOffsetAt image + 4 * id))
 
-    go : (t : Bool) → cond t 0 (backSizeAt image - 0) ≤ id → cond t unnamed (cond (leb (backSizeAt image) id) unnamed at) ≡ unnamed
-    go true h = refl
-    go false h = ap (λ (t : Bool). cond t unnamed at) (le-leb (backSizeAt image) id (omega (arith, h)))
+    unnamed-above : (t : Bool) → cond t 0 (backSizeAt image - 0) ≤ id → cond t unnamed (cond (leb (backSizeAt image) id) unnamed at) ≡ unnamed
+    unnamed-above true h = refl
+    unnamed-above false h = ap (λ (t : Bool). cond t unnamed at) (le-leb (backSizeAt image) id (omega (arith, h)))
 
 pub none-above : (old new : List ℕ) (id : ℕ) → upper old new ≤ id → (nameGiven old id ≡ none) × (nameGiven new id ≡ none)
 unfolding upper

@@ -10,7 +10,7 @@ use mathlib.Core.Option.{Option, none, some}
 use Rattle.image.specs.Bytes.{filter, range}
 use Rattle.image.proofs.Lists.{filter-yes, filter-no}
 use Rattle.reader.specs.Naming.{Naming, naming}
-use Rattle.changes.specs.Changes.{upper, differs, firstAmong, firstChange, Change, changed, unchanged, changeAt, nextChange}
+use Rattle.changes.specs.Changes.{upper, differs, firstAmong, firstChange, changed, unchanged, changeAt, nextChange}
 use Rattle.changes.specs.theorems.Theorem.{calls}
 
 pub none-some : {A : Type 0} {P : Type 0} (x : A) → none ≡ some x → P
@@ -69,14 +69,14 @@ module _ (old new : List ℕ) where
   pub found-first : (m from k : ℕ) → firstAmong old new from m ≡ some k → FirstBelow from k (from + m)
   unfolding firstAmong
   found-first zero from k e = none-some k e
-  found-first (suc m) from k e = go (found-first m (from + 1) k) (differs old new from) refl e
+  found-first (suc m) from k e = here-or-later (found-first m (from + 1) k) (differs old new from) refl e
     where
-      go : (firstAmong old new (from + 1) m ≡ some k → FirstBelow (from + 1) k (from + 1 + m)) → (t : Bool) → differs old new from ≡ t
+      here-or-later : (firstAmong old new (from + 1) m ≡ some k → FirstBelow (from + 1) k (from + 1 + m)) → (t : Bool) → differs old new from ≡ t
           → elim t [ true ↦ some from | false ↦ firstAmong old new (from + 1) m ] ≡ some k → FirstBelow from k (from + suc m)
-      go ih true d e =
+      here-or-later ih true d e =
           let f : from ≡ k = cc in
           record { from-there = omega arith; below = omega arith; unlike = ap (differs old new) (sym f) ∙ d; alike-before = λ i p q. absurd (omega arith) }
-      go ih false d e =
+      here-or-later ih false d e =
           let r = ih e in
           record {
             from-there = omega (arith, r .from-there);
@@ -106,13 +106,13 @@ module _ (old new : List ℕ) where
   pub none-all : (m from : ℕ) → firstAmong old new from m ≡ none → (i : ℕ) → from ≤ i → i < from + m → differs old new i ≡ false
   unfolding firstAmong
   none-all zero from e i p q = absurd (omega arith)
-  none-all (suc m) from e i p q = go (none-all m (from + 1)) (differs old new from) refl e
+  none-all (suc m) from e i p q = alike-here (none-all m (from + 1)) (differs old new from) refl e
     where
-      go : (firstAmong old new (from + 1) m ≡ none → (j : ℕ) → from + 1 ≤ j → j < from + 1 + m → differs old new j ≡ false)
+      alike-here : (firstAmong old new (from + 1) m ≡ none → (j : ℕ) → from + 1 ≤ j → j < from + 1 + m → differs old new j ≡ false)
           → (t : Bool) → differs old new from ≡ t
           → _≡_ {A = Option ℕ} (elim t [ true ↦ some from | false ↦ firstAmong old new (from + 1) m ]) none → differs old new i ≡ false
-      go ih true d e = none-some from (sym e)
-      go ih false d e = elim (ℕ-discrete from i) [ yes f ↦ ap (differs old new) (sym f) ∙ d | no n ↦ ih e i (omega arith) (omega arith) ]
+      alike-here ih true d e = none-some from (sym e)
+      alike-here ih false d e = elim (ℕ-discrete from i) [ yes f ↦ ap (differs old new) (sym f) ∙ d | no n ↦ ih e i (omega arith) (omega arith) ]
 
   pub all-none : (m from : ℕ) → ((i : ℕ) → from ≤ i → differs old new i ≡ false) → firstAmong old new from m ≡ none
   unfolding firstAmong
@@ -166,7 +166,7 @@ module _ (old new : List ℕ) where
   lists-changes zero from h =
       let e : 0 ≡ upper old new - from = omega arith in
       ap (kept from) e
-  lists-changes (suc m) from h = go (lists-changes m) (firstChange old new from) refl
+  lists-changes (suc m) from h = lists-from (lists-changes m) (firstChange old new from) refl
     where
       u : ℕ
       u = upper old new
@@ -174,10 +174,10 @@ module _ (old new : List ℕ) where
       found : (x : Option ℕ) → firstChange old new from ≡ x → firstAmong old new from (u - from) ≡ x
       found x e = starts from u refl ∙ e
 
-      go : ((f : ℕ) → u - f ≤ m → calls old new f m ≡ kept f (u - f)) → (x : Option ℕ) → firstChange old new from ≡ x
+      lists-from : ((f : ℕ) → u - f ≤ m → calls old new f m ≡ kept f (u - f)) → (x : Option ℕ) → firstChange old new from ≡ x
           → elim x [ some id ↦ id ∷ calls old new (id + 1) m | none ↦ [] ] ≡ kept from (u - from)
-      go ih none e = sym (kept-none (u - from) from (none-all (u - from) from (found none e)))
-      go ih (some k) e =
+      lists-from ih none e = sym (kept-none (u - from) from (none-all (u - from) from (found none e)))
+      lists-from ih (some k) e =
           let w = found-first (u - from) from k (found (some k) e) in
           let below : k < u = omega (arith, w .from-there, w .below) in
           let n : from + (u - from) - (k + 1) ≡ u - (k + 1) = omega (arith, w .from-there) in

@@ -1,14 +1,13 @@
 -- What is proved of changes and moved names (`specs/theorems/Theorem`). Assumes nothing.
-use Prim.Native.Nat.{ℕ, zero, suc, _+_, _-_, _≤_, _<_}
+use Prim.Native.Nat.{ℕ, zero, suc, _+_, _-_, _≤_}
 use native.Mathlib.Omega.{arith}
 use native.Mathlib.Decide.{decLt}
 use mathlib.Core.Path.{_≡_, refl, sym, ap, _∙_}
-use mathlib.Core.Logic.{_↔_}
-use mathlib.Core.Bool.{Bool, true, false}
+use mathlib.Core.Bool.{true, false}
 use mathlib.Core.List.{List}
 use mathlib.Core.Option.{Option, none, some}
 use Rattle.reader.specs.Naming.{nameGiven}
-use Rattle.changes.specs.Changes.{upper, differs, firstAmong, firstChange, unchanged, changeAt, nextChange}
+use Rattle.changes.specs.Changes.{upper, firstAmong, firstChange, changeAt, nextChange}
 use Rattle.changes.specs.theorems.Theorem.{FirstDiffering, exchanged, Compared}
 use Rattle.changes.proofs.Namings.{alike-exactly, differs-exactly, differs-sym, upper-sym, none-above}
 use Rattle.changes.proofs.Search as search
@@ -62,11 +61,11 @@ module _ (old new : List ℕ) where
   first-sym from = ap (λ (k : ℕ). firstAmong new old from (k - from)) (upper-sym old new) ∙ among-sym (u - from) from
 
   swaps : (from : ℕ) → nextChange new old from ≡ exchanged (nextChange old new from)
-  swaps from = ap (changeAt new old) (first-sym from) ∙ go (firstChange old new from)
+  swaps from = ap (changeAt new old) (first-sym from) ∙ swapped (firstChange old new from)
     where
-      go : (x : Option ℕ) → changeAt new old x ≡ exchanged (changeAt old new x)
-      go (some k) = refl
-      go none = refl
+      swapped : (x : Option ℕ) → changeAt new old x ≡ exchanged (changeAt old new x)
+      swapped (some k) = refl
+      swapped none = refl
 
 pub compared : Compared
 compared = record {

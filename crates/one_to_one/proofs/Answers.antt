@@ -1,11 +1,11 @@
 -- The answer by the decision of 02 (ix). Assumes nothing.
 use Prim.Native.Nat.{ℕ}
 use native.Mathlib.Omega.{arith}
-use mathlib.Core.Path.{_≡_, refl, sym, ap, _∙_}
+use mathlib.Core.Path.{_≡_, refl, ap}
 use mathlib.Core.Bool.{Bool, true, false, cond}
 use mathlib.Core.List.{List}
 use mathlib.Core.Option.{Option}
-use Rattle.jhash.specs.Outcome.{Outcome, value, refusal}
+use Rattle.jhash.specs.Outcome.{value, refusal}
 use Rattle.jhash.specs.Word.{AllBytes}
 use Rattle.reader.specs.Open.{opening}
 use Rattle.canonical.specs.Canonical.{canonical}
@@ -22,11 +22,11 @@ answered img h = ap (λ (t : Bool). cond t (value (firstFailureIn img)) (refusal
 
 -- what the answer says of the image where it is not refused
 pub accepted : (img : List ℕ) (a : Option Failure) → oneToOne img ≡ value a → canonical img ≡ true
-accepted img a h = go (canonical img) refl
+accepted img a h = answer-true (canonical img) refl
   where
-    go : (t : Bool) → canonical img ≡ t → t ≡ true
-    go true e = refl
-    go false e = let r = refused img e in let z : _≡_ {A = ℕ} 0 1 = cc in absurd (omega arith)
+    answer-true : (t : Bool) → canonical img ≡ t → t ≡ true
+    answer-true true e = refl
+    answer-true false e = let r = refused img e in let z : _≡_ {A = ℕ} 0 1 = cc in absurd (omega arith)
 
 pub first-is : (img : List ℕ) (a : Option Failure) → oneToOne img ≡ value a → firstFailureIn img ≡ a
 first-is img a h = let r = answered img (accepted img a h) in cc

@@ -1,21 +1,18 @@
 -- When `moved` finds an exchange of names (`specs/theorems/Exchanges`). Assumes nothing.
 use Prim.Native.Nat.{ℕ, _≤_}
-use native.Mathlib.Omega.{arith}
-use mathlib.Core.Path.{_≡_, refl, sym, ap, subst, _∙_}
-use mathlib.Core.Logic.{_↔_}
+use mathlib.Core.Path.{_≡_, refl, sym, ap, _∙_}
 use mathlib.Core.Bool.{true}
-use mathlib.Core.List.{List, [], _∷_, List·Memᴰ}
+use mathlib.Core.List.{List, List·Memᴰ}
 use mathlib.Core.Option.{Option, none, some}
 use lib.ListN.{length}
 use Rattle.jhash.specs.Outcome.{value}
-use Rattle.jhash.specs.Word.{AllBytes}
 use Rattle.image.specs.Image.{Entry, headSize, hasName}
 use Rattle.image.specs.declared.Mode.{Mode}
 use Rattle.image.specs.declared.Mode.the-variants.{Twoway}
 use Rattle.image.proofs.AllOfList.{All, all-map}
 use Rattle.image.proofs.Equal.{same-self}
 use Rattle.reader.specs.Lookup.{Lookup, found, nothing, lookup}
-use Rattle.lookup_laws.specs.Answer.{foundId, nameGiven, ofName}
+use Rattle.lookup_laws.specs.Answer.{foundId, ofName}
 use Rattle.changes.specs.Moves.{otherId, movedName, moved}
 use Rattle.changes.proofs.Moves.{another-id}
 use Rattle.changes.proofs.Search.{none-some}
@@ -24,13 +21,13 @@ use Rattle.writer.specs.declared.Repeats.the-variants.{Off}
 use Rattle.lists.specs.Calls.{Call, WordIds}
 use Rattle.lists.specs.Demand3.{acceptedPuts, imageOf}
 use Rattle.lists.proofs.RepeatsOff.{repeats-off}
-use Rattle.canonical.specs.Canonical.{canonical, putsIn, modeIn}
+use Rattle.canonical.specs.Canonical.{modeIn}
 use Rattle.canonical.specs.steps.Made.{Made}
 use Rattle.canonical.proofs.ListImages.{list-made, list-puts}
 use Rattle.canonical.proofs.ReadBack.{made-puts, canonical-only}
 use Rattle.one_to_one.specs.OneToOne.{oneToOne}
 use Rattle.one_to_one.specs.theorems.Theorem.{SameId, OneId}
-use Rattle.one_to_one.specs.theorems.Exchanges.{HasOldName, Exchanged, BothFound, ExchangesFound}
+use Rattle.one_to_one.specs.theorems.Exchanges.{HasOldName, BothFound, ExchangesFound}
 use Rattle.one_to_one.proofs.Answers.{accepted}
 use Rattle.one_to_one.proofs.Puts.{each-in, at-one, of-kept, name-first}
 use Rattle.one_to_one.proofs.Pairs as pairs

@@ -53,14 +53,14 @@ module _ (kind : Entry → ℕ) where
   pub all-pass : (o : ℕ) (es : List Entry) → firstFailure kind o es ≡ none → All (λ (x : Entry). kind x ≡ 0) es
   unfolding firstFailure
   all-pass o [] h = tt
-  all-pass o (e ∷ es) h = go (all-pass (o + entrySize e) es) (eqb (kind e) 0) refl h
+  all-pass o (e ∷ es) h = first-passes (all-pass (o + entrySize e) es) (eqb (kind e) 0) refl h
     where
-      go : (firstFailure kind (o + entrySize e) es ≡ none → All (λ (x : Entry). kind x ≡ 0) es)
+      first-passes : (firstFailure kind (o + entrySize e) es ≡ none → All (λ (x : Entry). kind x ≡ 0) es)
           → (t : Bool) → eqb (kind e) 0 ≡ t
           → cond t (firstFailure kind (o + entrySize e) es) (some (failure (kind e) o)) ≡ none
           → All (λ (x : Entry). kind x ≡ 0) (e ∷ es)
-      go rest true t q = (eqb-true (kind e) 0 t, rest q)
-      go rest false t q = let z : _≡_ {A = ℕ} 0 1 = cc in absurd (omega arith)
+      first-passes rest true t q = (eqb-true (kind e) 0 t, rest q)
+      first-passes rest false t q = let z : _≡_ {A = ℕ} 0 1 = cc in absurd (omega arith)
 
 -- kinds that agree on every entry
 pub same-kinds : (kind other : Entry → ℕ) → ((e : Entry) → kind e ≡ other e) → (o : ℕ) (es : List Entry)

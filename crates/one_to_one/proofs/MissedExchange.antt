@@ -1,23 +1,21 @@
 -- The exchange that `moved` misses (`specs/examples/MissedExchange`): the answers are computed from the puts. Assumes nothing.
-use Prim.Native.Nat.{ℕ, _≤_, _<_}
+use Prim.Native.Nat.{ℕ}
 use native.Mathlib.Omega.{arith}
 use mathlib.Core.Path.{_≡_, refl, sym, ap, _∙_}
 use mathlib.Core.List.{List, [], _∷_}
-use mathlib.Core.Option.{Option, none, some}
+use mathlib.Core.Option.{none, some}
 use lib.Dec.{lit≤, lit<}
-use Rattle.jhash.specs.Outcome.{Outcome, value}
 use Rattle.image.specs.Bytes.{filter, same}
-use Rattle.image.specs.Image.{Entry, headSize, imageSize, entriesSize, backSize, image}
+use Rattle.image.specs.Image.{Entry, entriesSize, backSize}
 use Rattle.image.specs.Zero.{hasZero}
 use Rattle.image.specs.declared.Mode.the-variants.{Twoway}
 use Rattle.reader.specs.Lookup.{Lookup, found, nothing, lookup}
 use Rattle.lookup_laws.specs.Answer.{foundId, nameGiven, ofName, ofId, firstId, lastName}
 use Rattle.changes.specs.Moves.{otherId, movedName, moved}
 use Rattle.changes.proofs.Moves.{same-id}
-use Rattle.changes.proofs.Search.{none-some}
 use Rattle.canonical.specs.steps.Made.{Made}
 use Rattle.canonical.proofs.ReadBack.{made-mode}
-use Rattle.one_to_one.specs.OneToOne.{Failure, firstFailure}
+use Rattle.one_to_one.specs.OneToOne.{firstFailure}
 use Rattle.one_to_one.specs.examples.Rows.{A, B}
 use Rattle.one_to_one.specs.examples.MissedExchange.{old, new, ExchangeMissed}
 use Rattle.one_to_one.proofs.Pairs.{finds-first, gives-last, by-puts}

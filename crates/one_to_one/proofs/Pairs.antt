@@ -3,13 +3,12 @@ use Prim.Native.Nat.{ℕ, _≤_}
 use native.Mathlib.Omega.{arith}
 use mathlib.Core.Path.{_≡_, refl, sym, ap, ap₂, _∙_}
 use mathlib.Core.Logic.{inl, inr}
-use mathlib.Core.Bool.{Bool, true, false, cond}
+use mathlib.Core.Bool.{Bool, true, false}
 use mathlib.Core.List.{List, List·Memᴰ}
 use mathlib.Core.Option.{Option, none, some}
 use lib.ListN.{length}
-use borrow.Author.Tests.{eq-eqb, ne-eqb, eqb-true, eqb-false}
+use borrow.Author.Tests.{eq-eqb, ne-eqb, eqb-true}
 use Rattle.jhash.specs.Outcome.{Outcome, value}
-use Rattle.image.specs.Bytes.{same}
 use Rattle.image.specs.Image.{Entry, headSize}
 use Rattle.image.specs.declared.Mode.{Mode}
 use Rattle.image.specs.declared.Mode.the-variants.{Twoway, Oneway}
@@ -28,7 +27,7 @@ use Rattle.canonical.proofs.ListImages.{words, accepted-all, made-closes, made-
 use Rattle.canonical.proofs.ReadBack.{made-puts, made-mode, canonical-yes}
 use Rattle.one_to_one.specs.OneToOne.{isId, isName, asked, kindOf, kindIn, Failure, firstFailure, firstFailureIn, oneToOne}
 use Rattle.one_to_one.specs.theorems.Theorem.{Paired, FindsOther, GivesOther, Fails, Inverse, kindAmong, SameId, SameName, OneId, OneName}
-use Rattle.one_to_one.proofs.Answers.{answered, accepted, first-is}
+use Rattle.one_to_one.proofs.Answers.{answered, first-is}
 use Rattle.one_to_one.proofs.Failures.{none-fails, all-pass, same-kinds}
 use Rattle.one_to_one.proofs.Puts.{each-in, at-one, name-first, id-last, first-entry, last-entry}
 
@@ -107,12 +106,12 @@ module _ (img : List ℕ) (m : Made img) where
   unfolding kindIn
   kind-among e =
       ap₂ kindOf (ap (λ (o : Option ℕ). isId o (e .id)) (finds-first (e .name)))
-      (ap (λ (x : Mode). asked x (isName (nameGiven img (e .id)) (e .name))) (made-mode img m) ∙ go (m .mode) (read .id-gives (e .id)))
+      (ap (λ (x : Mode). asked x (isName (nameGiven img (e .id)) (e .name))) (made-mode img m) ∙ asked-alike (m .mode) (read .id-gives (e .id)))
     where
-      go : (mode : Mode) → nameGiven img (e .id) ≡ namedIn mode (m .puts) (e .id)
+      asked-alike : (mode : Mode) → nameGiven img (e .id) ≡ namedIn mode (m .puts) (e .id)
           → asked mode (isName (nameGiven img (e .id)) (e .name)) ≡ asked mode (isName (lastName (ofId (e .id) (m .puts))) (e .name))
-      go Twoway h = ap (λ (o : Option (List ℕ)). isName o (e .name)) h
-      go Oneway h = refl
+      asked-alike Twoway h = ap (λ (o : Option (List ℕ)). isName o (e .name)) h
+      asked-alike Oneway h = refl
 
   pub by-puts : oneToOne img ≡ value (firstFailure (kindAmong (m .mode) (m .puts)) headSize (m .puts))
   unfolding firstFailureIn
@@ -200,10 +199,10 @@ module _ (img : List ℕ) (m : Made img) where
 
     gives-other : isId (foundId (lookup img (e .name))) (e .id) ≡ true
         → asked (modeIn img) (isName (nameGiven img (e .id)) (e .name)) ≡ false → GivesOther img e
-    gives-other f h = go (modeIn img) refl h
+    gives-other f h = other-in (modeIn img) refl h
       where
-        go : (mode : Mode) → modeIn img ≡ mode → asked mode (isName (nameGiven img (e .id)) (e .name)) ≡ false → GivesOther img e
-        go Twoway t n =
+        other-in : (mode : Mode) → modeIn img ≡ mode → asked mode (isName (nameGiven img (e .id)) (e .name)) ≡ false → GivesOther img e
+        other-in Twoway t n =
             let g = id-last (m .puts) e i in
             let given = gives-last t (e .id) ∙ g .1 in
             record {
@@ -213,18 +212,18 @@ module _ (img : List ℕ) (m : Made img) where
               given = given;
               another = λ q. false-not-true (sym n ∙ name-is (nameGiven img (e .id)) (e .name) (given ∙ ap {B = Option (List ℕ)} some q));
             }
-        go Oneway t n = absurd (false-not-true (sym n))
+        other-in Oneway t n = absurd (false-not-true (sym n))
 
     pub fails : (k : ℕ) → kindIn img e ≡ k → ¬ (k ≡ 0) → Fails img k e
     unfolding kindIn
     fails k h n =
-        go (isId (foundId (lookup img (e .name))) (e .id)) refl (asked (modeIn img) (isName (nameGiven img (e .id)) (e .name))) refl h
+        fails-by (isId (foundId (lookup img (e .name))) (e .id)) refl (asked (modeIn img) (isName (nameGiven img (e .id)) (e .name))) refl h
       where
-        go : (f : Bool) → isId (foundId (lookup img (e .name))) (e .id) ≡ f
+        fails-by : (f : Bool) → isId (foundId (lookup img (e .name))) (e .id) ≡ f
             → (g : Bool) → asked (modeIn img) (isName (nameGiven img (e .id)) (e .name)) ≡ g → kindOf f g ≡ k → Fails img k e
-        go true p true q h = absurd (n (sym h))
-        go true p false q h = inr (sym h, gives-other p q)
-        go false p g q h = inl (sym h, finds-other p)
+        fails-by true p true q h = absurd (n (sym h))
+        fails-by true p false q h = inr (sym h, gives-other p q)
+        fails-by false p g q h = inl (sym h, finds-other p)
 
 -- and one that finds another id, or gives another name, fails
 pub kind-fails : (img : List ℕ) (k : ℕ) (e : Entry) → Fails img k e → (kindIn img e ≡ k) × ¬ (k ≡ 0)

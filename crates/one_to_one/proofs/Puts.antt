@@ -5,9 +5,9 @@ use mathlib.Core.Path.{_≡_, refl, sym, ap, _∙_, subst}
 use mathlib.Core.Logic.{_⊎_, inl, inr}
 use mathlib.Core.Bool.{Bool, true, false, cond}
 use mathlib.Core.List.{List, [], _∷_, List·Memᴰ, List·Memᴰ·head, List·Memᴰ·tail, List·Memᴰ·cases-cons, List·Memᴰ·not-nil}
-use mathlib.Core.Option.{Option, some}
+use mathlib.Core.Option.{some}
 use borrow.Author.Tests.{eq-eqb, eqb-true}
-use Rattle.image.specs.Bytes.{filter, same}
+use Rattle.image.specs.Bytes.{filter}
 use Rattle.image.specs.Image.{Entry, hasId, hasName}
 use Rattle.image.proofs.Bools.{false-not-true}
 use Rattle.image.proofs.Equal.{same-self, same-true}
@@ -22,11 +22,11 @@ each-in (e ∷ es) = (List·Memᴰ·head refl, all-map (λ x m. List·Memᴰ·ta
 -- what holds of each holds of one that is in it
 pub at-one : (P : Entry → Type 0) (e : Entry) (es : List Entry) → All P es → List·Memᴰ e es → P e
 at-one P e [] all m = absurd (List·Memᴰ·not-nil m)
-at-one P e (x ∷ es) all m = go (at-one P e es (all .1)) (List·Memᴰ·cases-cons m)
+at-one P e (x ∷ es) all m = first-or-rest (at-one P e es (all .1)) (List·Memᴰ·cases-cons m)
   where
-    go : (List·Memᴰ e es → P e) → (e ≡ x) ⊎ List·Memᴰ e es → P e
-    go rest (inl p) = subst P (sym p) (all .0)
-    go rest (inr n) = rest n
+    first-or-rest : (List·Memᴰ e es → P e) → (e ≡ x) ⊎ List·Memᴰ e es → P e
+    first-or-rest rest (inl p) = subst P (sym p) (all .0)
+    first-or-rest rest (inr n) = rest n
 
 -- ---- what a test keeps
 
@@ -34,23 +34,23 @@ module _ (test : Entry → Bool) where
   kept : (P : Entry → Type 0) (es : List Entry) → All P es → All (λ (e : Entry). P e × (test e ≡ true)) (filter test es)
   unfolding filter
   kept P [] all = tt
-  kept P (e ∷ es) all = go (test e) refl (kept P es (all .1))
+  kept P (e ∷ es) all = with-first (test e) refl (kept P es (all .1))
     where
-      go : (t : Bool) → test e ≡ t → All (λ (x : Entry). P x × (test x ≡ true)) (filter test es)
+      with-first : (t : Bool) → test e ≡ t → All (λ (x : Entry). P x × (test x ≡ true)) (filter test es)
           → All (λ (x : Entry). P x × (test x ≡ true)) (cond t (e ∷ filter test es) (filter test es))
-      go true q rest = ((all .0, q), rest)
-      go false q rest = rest
+      with-first true q rest = ((all .0, q), rest)
+      with-first false q rest = rest
 
   kept-some : (e : Entry) → test e ≡ true → (es : List Entry) → List·Memᴰ e es → filter test es ≡ [] → ⊥
   unfolding filter
   kept-some e h [] m = absurd (List·Memᴰ·not-nil m)
-  kept-some e h (x ∷ es) m = go (test x) refl (kept-some e h es) (List·Memᴰ·cases-cons m)
+  kept-some e h (x ∷ es) m = still-kept (test x) refl (kept-some e h es) (List·Memᴰ·cases-cons m)
     where
-      go : (t : Bool) → test x ≡ t → (List·Memᴰ e es → filter test es ≡ [] → ⊥) → (e ≡ x) ⊎ List·Memᴰ e es
+      still-kept : (t : Bool) → test x ≡ t → (List·Memᴰ e es → filter test es ≡ [] → ⊥) → (e ≡ x) ⊎ List·Memᴰ e es
           → cond t (x ∷ filter test es) (filter test es) ≡ [] → ⊥
-      go true q rest m z = let c : _≡_ {A = ℕ} 0 1 = cc in omega arith
-      go false q rest (inl p) z = false-not-true (sym q ∙ sym (ap test p) ∙ h)
-      go false q rest (inr n) z = rest n z
+      still-kept true q rest m z = let c : _≡_ {A = ℕ} 0 1 = cc in omega arith
+      still-kept false q rest (inl p) z = false-not-true (sym q ∙ sym (ap test p) ∙ h)
+      still-kept false q rest (inr n) z = rest n z
 
   -- what holds of all that it keeps
   pub of-kept : (P : Entry → Type 0) (es : List Entry) → All P (filter test es) → All (λ (e : Entry). test e ≡ true → P e) es

@@ -2,7 +2,7 @@
 use Prim.Native.Nat.{_≤_, _<_}
 use mathlib.Core.Path.{_≡_, refl, ap, _∙_}
 use mathlib.Core.Bool.{Bool, true, false}
-use mathlib.Core.List.{List, []}
+use mathlib.Core.List.{[]}
 use mathlib.Core.Option.{Option}
 use lib.Dec.{lit≤, lit<}
 use Rattle.jhash.specs.Outcome.{Outcome, value}
@@ -70,8 +70,8 @@ rows-hold = all-map holds oneToOneRows computed
 -- no byte at all does not open
 pub no-bytes : NoBytes
 unfolding opening
-no-bytes = refused [] (go (canonical []) refl)
+no-bytes = refused [] (answer-false (canonical []) refl)
   where
-    go : (t : Bool) → canonical [] ≡ t → t ≡ false
-    go true h = absurd (never-refused [] 1 (λ i. lit< tt) h refl)
-    go false h = refl
+    answer-false : (t : Bool) → canonical [] ≡ t → t ≡ false
+    answer-false true h = absurd (never-refused [] 1 (λ i. lit< tt) h refl)
+    answer-false false h = refl

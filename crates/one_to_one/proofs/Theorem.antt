@@ -38,11 +38,11 @@ module _ (img : List ℕ) where
   first : (o : ℕ) (es : List Entry) (f : Failure) → All Said es → firstFailure (kindIn img) o es ≡ some f → First img o es f
   unfolding firstFailure entriesSize
   first o [] f said h = let z : _≡_ {A = ℕ} 0 1 = cc in absurd (omega arith)
-  first o (e ∷ es) f said h = go (first (o + entrySize e) es f (said .1)) (eqb (kindIn img e) 0) refl h
+  first o (e ∷ es) f said h = here-or-later (first (o + entrySize e) es f (said .1)) (eqb (kindIn img e) 0) refl h
     where
-      go : (firstFailure (kindIn img) (o + entrySize e) es ≡ some f → First img (o + entrySize e) es f) → (t : Bool) → eqb (kindIn img e) 0 ≡ t
+      here-or-later : (firstFailure (kindIn img) (o + entrySize e) es ≡ some f → First img (o + entrySize e) es f) → (t : Bool) → eqb (kindIn img e) 0 ≡ t
           → cond t (firstFailure (kindIn img) (o + entrySize e) es) (some (failure (kindIn img e) o)) ≡ some f → First img o (e ∷ es) f
-      go rest true t q =
+      here-or-later rest true t q =
           let r = rest q in
           record {
             before = e ∷ r .before;
@@ -53,7 +53,7 @@ module _ (img : List ℕ) where
             paired-before = (pairs.paired img e (eqb-true (kindIn img e) 0 t), r .paired-before);
             fails = r .fails;
           }
-      go rest false t q =
+      here-or-later rest false t q =
           let k : kindIn img e ≡ f .kind = cc in
           let at : f .offset ≡ o = cc in
           record {

@@ -19,11 +19,11 @@ use Rattle.search_length.specs.Average.{entryCount, firstRefusal, averag
 
 -- no refusal: the image is canonical, and there are entries
 pub first-zero : (own : Bool) (n : ℕ) → firstRefusal own n ≡ 0 → (own ≡ true) × (0 < n)
-first-zero true n e = (refl, go (eqb n 0) refl e)
+first-zero true n e = (refl, not-empty (eqb n 0) refl e)
   where
-    go : (t : Bool) → eqb n 0 ≡ t → _≡_ {A = ℕ} (cond t 18 0) 0 → 0 < n
-    go true a b = absurd (omega arith)
-    go false a b = above n a
+    not-empty : (t : Bool) → eqb n 0 ≡ t → _≡_ {A = ℕ} (cond t 18 0) 0 → 0 < n
+    not-empty true a b = absurd (omega arith)
+    not-empty false a b = above n a
       where
         above : (k : ℕ) → eqb k 0 ≡ false → 0 < k
         above k h = elim (decLt 0 k) [

@@ -30,12 +30,12 @@ use Rattle.search_length.specs.SearchLengths.{searchLength}
 probe-some : (look : ℕ → Probe) (ks : List ℕ) (r : ℕ) (f : Found) → searchAlong look ks r ≡ found f → r < f .buckets
 unfolding searchAlong
 probe-some look [] r f e = not-found r f e
-probe-some look (k ∷ ks) r f e = go (look k) (λ q. probe-some look ks (r + 1) f q) e
+probe-some look (k ∷ ks) r f e = more-read (look k) (λ q. probe-some look ks (r + 1) f q) e
   where
-    go : (s : Probe) → (searchAlong look ks (r + 1) ≡ found f → r + 1 < f .buckets) → decide s (r + 1) (searchAlong look ks (r + 1)) ≡ found f → r < f .buckets
-    go pass later e = omega (arith, later e)
-    go ends later e = not-found (r + 1) f e
-    go (hit h) later e = let z : r + 1 ≡ f .buckets = cc in omega arith
+    more-read : (s : Probe) → (searchAlong look ks (r + 1) ≡ found f → r + 1 < f .buckets) → decide s (r + 1) (searchAlong look ks (r + 1)) ≡ found f → r < f .buckets
+    more-read pass later e = omega (arith, later e)
+    more-read ends later e = not-found (r + 1) f e
+    more-read (hit h) later e = let z : r + 1 ≡ f .buckets = cc in omega arith
 
 lookup-some : (img name : List ℕ) (f : Found) → lookup img name ≡ found f → 0 < f .buckets
 unfolding lookup lookupHash searchTable
@@ -78,13 +78,13 @@ module _ (img : List ℕ) (bytes : AllBytes img) (own : canonical img ≡ true) 
       rw (made-puts img m) most
 
   one-bounded : (e : Entry) → (id : ℕ) × (foundId (lookup img (e .name)) ≡ some id) → Bounded img (putsIn img) e
-  one-bounded e h = go (lookup img (e .name)) refl (h .1)
+  one-bounded e h = bounded-by (lookup img (e .name)) refl (h .1)
     where
-      go : (l : Lookup) → lookup img (e .name) ≡ l → foundId l ≡ some (h .0) → Bounded img (putsIn img) e
-      go (found f) q s =
+      bounded-by : (l : Lookup) → lookup img (e .name) ≡ l → foundId l ≡ some (h .0) → Bounded img (putsIn img) e
+      bounded-by (found f) q s =
           let r : searchLength img e ≡ f .buckets = ap reads q in
           (omega (arith, r, lookup-some img (e .name) f q), omega (arith, r, found-most (e .name) f q))
-      go (nothing n) q s = let z : _≡_ {A = ℕ} 0 1 = cc in absurd (omega arith)
+      bounded-by (nothing n) q s = let z : _≡_ {A = ℕ} 0 1 = cc in absurd (omega arith)
 
   pub all-bounded : All (Bounded img (putsIn img)) (putsIn img)
   all-bounded = all-map one-bounded (putsIn img) (canonical-holds .holds img bytes own .found)

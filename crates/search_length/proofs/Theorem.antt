@@ -49,13 +49,13 @@ total-each img (f ∷ before) e behind = omega (arith, total-each img before e b
 places-kept : (t o : ℕ) (es : List Entry) → length (filter (image.inTable t) (placed o es)) ≡ length (filter (nameInTable t) es)
 unfolding filter placed
 places-kept t o [] = refl
-places-kept t o (e ∷ es) = go (eqb (tableOf (hashOf (e .name))) t) (places-kept t (o + entrySize e) es)
+places-kept t o (e ∷ es) = either-kept (eqb (tableOf (hashOf (e .name))) t) (places-kept t (o + entrySize e) es)
   where
-    go : (b : Bool) → length (filter (image.inTable t) (placed (o + entrySize e) es)) ≡ length (filter (nameInTable t) es)
+    either-kept : (b : Bool) → length (filter (image.inTable t) (placed (o + entrySize e) es)) ≡ length (filter (nameInTable t) es)
         → length (cond b (record { entry = e; at = o } ∷ filter (image.inTable t) (placed (o + entrySize e) es)) (filter (image.inTable t) (placed (o + entrySize e) es)))
         ≡ length (cond b (e ∷ filter (nameInTable t) es) (filter (nameInTable t) es))
-    go true h = omega arith
-    go false h = h
+    either-kept true h = omega arith
+    either-kept false h = h
 
 puts-kept : (name : List ℕ) (es : List Entry) → tablePuts name es ≡ length (entriesOfTable (tableOf (hashOf name)) es)
 unfolding tablePuts image.ofTable entriesOfTable
@@ -64,21 +64,21 @@ puts-kept name es = places-kept (tableOf (hashOf name)) headSize es
 table-most : (img : List ℕ) (t : ℕ) (all es : List Entry) → All (Bounded img all) es → totalOf img (filter (nameInTable t) es) ≤ length (filter (nameInTable t) es) * length (entriesOfTable t all)
 unfolding totalOf filter
 table-most img t all [] b = omega arith
-table-most img t all (e ∷ es) b = go (eqb (tableOf (hashOf (e .name))) t) refl (table-most img t all es (b .1))
+table-most img t all (e ∷ es) b = either-bounded (eqb (tableOf (hashOf (e .name))) t) refl (table-most img t all es (b .1))
   where
     rest : List Entry
     rest = filter (nameInTable t) es
 
-    go : (q : Bool) → eqb (tableOf (hashOf (e .name))) t ≡ q → totalOf img (filter (nameInTable t) es) ≤ length (filter (nameInTable t) es) * length (entriesOfTable t all)
+    either-bounded : (q : Bool) → eqb (tableOf (hashOf (e .name))) t ≡ q → totalOf img (filter (nameInTable t) es) ≤ length (filter (nameInTable t) es) * length (entriesOfTable t all)
         → totalOf img (cond q (e ∷ filter (nameInTable t) es) (filter (nameInTable t) es)) ≤ length (cond q (e ∷ filter (nameInTable t) es) (filter (nameInTable t) es)) * length (entriesOfTable t all)
-    go true q h =
+    either-bounded true q h =
         let same : tableOf (hashOf (e .name)) ≡ t = eqb-true _ _ q in
         let puts : tablePuts (e .name) all ≡ length (entriesOfTable t all) = puts-kept (e .name) all ∙ ap (λ (k : ℕ). length (entriesOfTable k all)) same in
         one (searchLength img e) (totalOf img (filter (nameInTable t) es)) (length (filter (nameInTable t) es)) (length (entriesOfTable t all)) (omega (arith, b .0 .1, puts)) h
       where
         one : (a s l n : ℕ) → a ≤ n → s ≤ l * n → a + s ≤ suc l * n
         one a s l n p q = omega (arith, suc-mul l n)
-    go false q h = h
+    either-bounded false q h = h
 
 -- ---- a canonical image
 
@@ -113,11 +113,11 @@ isValue (refusal k) = 0
 
 given : (img : List ℕ) (m : AverageLength) → averaging img ≡ value m → (averageOf img ≡ m) × (averageRefusal img ≡ 0)
 unfolding averaging isValue averageOr
-given img m e = go (eqb (averageRefusal img) 0) refl e
+given img m e = by-refusal (eqb (averageRefusal img) 0) refl e
   where
-    go : (t : Bool) → eqb (averageRefusal img) 0 ≡ t → cond t (value (averageOf img)) (refusal (averageRefusal img)) ≡ value m → (averageOf img ≡ m) × (averageRefusal img ≡ 0)
-    go true t e = (ap (averageOr m) e, eqb-true _ _ t)
-    go false t e = let z : _≡_ {A = ℕ} 0 1 = ap isValue e in absurd (omega arith)
+    by-refusal : (t : Bool) → eqb (averageRefusal img) 0 ≡ t → cond t (value (averageOf img)) (refusal (averageRefusal img)) ≡ value m → (averageOf img ≡ m) × (averageRefusal img ≡ 0)
+    by-refusal true t e = (ap (averageOr m) e, eqb-true _ _ t)
+    by-refusal false t e = let z : _≡_ {A = ℕ} 0 1 = ap isValue e in absurd (omega arith)
 
 -- no refusal: there are entries
 some-entries : (img : List ℕ) → averageRefusal img ≡ 0 → 0 < entryCount img

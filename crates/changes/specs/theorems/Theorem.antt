@@ -4,7 +4,7 @@ use mathlib.Core.Path.{_≡_}
 use mathlib.Core.Logic.{_↔_}
 use mathlib.Core.Bool.{true, false}
 use mathlib.Core.List.{List, [], _∷_}
-use mathlib.Core.Option.{Option, none, some}
+use mathlib.Core.Option.{none, some}
 use Rattle.image.specs.Bytes.{filter, range, word}
 use Rattle.image.specs.Stored.{nameAt, broken}
 use Rattle.reader.specs.Naming.{nameGiven}

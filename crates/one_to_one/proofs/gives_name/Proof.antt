@@ -9,7 +9,7 @@ use Rattle.image.specs.Bytes.{same}
 use Rattle.image.specs.declared.Mode.the-variants.{Twoway, Oneway}
 use Rattle.reader.specs.Naming.{Naming, bytesAt, nameGiven}
 use Rattle.reader.specs.Cases.{namingOf}
-use Rattle.reader.proofs.Namings.{HasPlace, named}
+use Rattle.reader.proofs.Namings.{named}
 use Rattle.one_to_one.specs.OneToOne.{isName, asked}
 use borrow.Author.Needs.{needs}
 use Rattle.one_to_one.proofs.gives_name.Statement.{statement}

@@ -1,6 +1,5 @@
 -- `canonical::entries::one_if_equal` meets its contract. Assumes nothing.
 use native.Mathlib.Omega.{arith}
-use borrow.Author.Needs.{needs}
 use borrow.Author.Tests.{eq-eqb, ne-eqb}
 use Rattle.canonical.proofs.entries.one_if_equal.Statement.{statement}
 use Rattle.canonical.proofs.entries.one_if_equal.Tie as tie

@@ -1,8 +1,8 @@
 -- `canonical::tables::count_used` meets its contract. Assumes nothing.
 use borrow.Author.Needs.{needs}
 use native.Mathlib.Omega.{arith}
-use Prim.Native.Nat.{_+_, _*_, _-_}
-use mathlib.Core.Path.{_≡_, ap, _∙_}
+use Prim.Native.Nat.{_+_, _-_}
+use mathlib.Core.Path.{ap, _∙_}
 use Rattle.canonical.specs.steps.HiddenBuckets.{bit}
 use Rattle.canonical.proofs.TableLoops.{Used, used-start, used-next, used-end}
 use Rattle.canonical.proofs.tables.count_used.Statement.{statement}
