@@ -62,7 +62,8 @@ module _ (l : List ℕ) where
       let rest = self-most (suc (q .at)) ps (omega arith) (r .1) in
       elim (ℕ-discrete (getD l (q .entry .id) 0) (q .at)) [
         | yes e ↦
-            omega (arith, self-yes l q ps e, countAtLeast-in a (suc (q .at)) l (q .entry .id) (inside l (q .entry .id) (omega arith)) (omega arith) (omega arith))
+            let there = countAtLeast-in a (suc (q .at)) l (q .entry .id) (inside l (q .entry .id) (omega arith)) (omega arith) (omega arith) in
+            omega (arith, self-yes l q ps e, there)
         | no d ↦ omega (arith, self-no l q ps d, countAtLeast-mono a (suc (q .at)) l (omega arith))
       ]
 

@@ -11,7 +11,8 @@ use borrow.Author.Tests.{ne-eqb}
 use Rattle.jhash.specs.NameHash.{hashOf}
 use Rattle.image.specs.Bytes.{word, cat, range}
 use Rattle.image.specs.Head.{tableAt, bucketNumber, backSizeAt, backOffsetAt}
-use Rattle.image.specs.Image.{Entry, Placed, headSize, entryBytes, placed, ofTable, count, bucketOf, entriesBefore, tableOffset, flagWord, backSize, backIn, backOffset, entriesEnd, imageSize, image}
+use Rattle.image.specs.Image.{Entry, Placed, headSize, entryBytes, placed, ofTable, count, bucketOf, entriesBefore, tableOffset, flagWord, backSize, backIn}
+use Rattle.image.specs.Image.{backOffset, entriesEnd, imageSize, image}
 use Rattle.image.specs.Stored.{whole, entriesIn}
 use Rattle.image.specs.Tables.{Bucket, empty, tableOf}
 use Rattle.image.specs.Tally.{tallied}
@@ -31,7 +32,8 @@ use Rattle.canonical.specs.steps.Made.{Storable, Made}
 use Rattle.canonical.specs.Canonical.{modeIn}
 use Rattle.canonical.specs.steps.InPlace.{bucketsInPlace}
 use Rattle.canonical.proofs.InPlace.{LinksIn, InPlace}
-use Rattle.canonical.specs.steps.Checks.{endIn, areaIn, checkedEntries, tableOk, rowCount, rowsOk, countsMatch, nameOk, notBefore, inItsBucket, twoWay, entryOk, entriesOk, linksCounted, Checked}
+use Rattle.canonical.specs.steps.Checks.{endIn, areaIn, checkedEntries, tableOk, rowCount, rowsOk, countsMatch, nameOk, notBefore, inItsBucket}
+use Rattle.canonical.specs.steps.Checks.{twoWay, entryOk, entriesOk, linksCounted, Checked}
 use Rattle.canonical.proofs.ReadBack.{all-wordly, ids-of, flag-of-image}
 use Rattle.canonical.proofs.TableChecks.{table-checked, Row, rows-checked, counts-checked, row-count}
 use Rattle.canonical.proofs.EntryChecks.{bucket-checked, entries-checked, from-tables, all-unimage, ahead-checked, links-checked}
@@ -165,7 +167,8 @@ module _ (mode : Mode) (es : List Entry) (each : All Storable es) (fits : imageS
 
   abbrev There : ℕ → Placed → Type 0
   There t p =
-      getD (bucketsInPlace img (tableAt img t) (bucketNumber img t)) (putBucket (bucketNumber img t) (bucketsInPlace img (tableAt img t) (bucketNumber img t)) (bucketOf p)) empty
+      getD (bucketsInPlace img (tableAt img t) (bucketNumber img t))
+      (putBucket (bucketNumber img t) (bucketsInPlace img (tableAt img t) (bucketNumber img t)) (bucketOf p)) empty
       ≡ bucketOf p
 
   there : (t : ℕ) → t < 256 → All (There t) (ofTable t ps)
@@ -173,7 +176,8 @@ module _ (mode : Mode) (es : List Entry) (each : All Storable es) (fits : imageS
       let e = sym (numbers t h) in
       let r = rw (table-read t h, e) at (right t h) in
       all-unimage
-      (λ (b : Bucket). getD (bucketsInPlace img (tableAt img t) (bucketNumber img t)) (putBucket (bucketNumber img t) (bucketsInPlace img (tableAt img t) (bucketNumber img t)) b) empty ≡ b)
+      (λ (b : Bucket). getD (bucketsInPlace img (tableAt img t) (bucketNumber img t))
+      (putBucket (bucketNumber img t) (bucketsInPlace img (tableAt img t) (bucketNumber img t)) b) empty ≡ b)
       bucketOf (ofTable t ps) (r .stand)
 
   links-at : endIn img n + 16 * n ≡ entriesEnd es + 16 * length es
@@ -199,7 +203,8 @@ module _ (mode : Mode) (es : List Entry) (each : All Storable es) (fits : imageS
           → entryOk img (isTwo mode) (endIn img n + 16 * n) p ≡ true
       one p (l, rest) =
           and-both (notBefore (isTwo mode) (p .at) (word img (endIn img n + 16 * n + 4 * p .entry .id))) (nameOk img (p .at) (p .entry .name)) l
-          (and-both (not (hasZero (p .entry .name))) (inItsBucket img (hashOf (p .entry .name)) (p .at)) (rest .0) (bucket-checked img (bucketOf p) (rest .1 .0 .after) (rest .1 .1)))
+          (and-both (not (hasZero (p .entry .name))) (inItsBucket img (hashOf (p .entry .name)) (p .at)) (rest .0)
+          (bucket-checked img (bucketOf p) (rest .1 .0 .after) (rest .1 .1)))
 
   -- ---- all
 

@@ -12,7 +12,8 @@ use Rattle.jhash.specs.NameHash.{hashOf}
 use Rattle.jhash.proofs.WordRead.{word-below}
 use Rattle.image.specs.Bytes.{word, cat, range}
 use Rattle.image.specs.Head.{tableAt, bucketNumber, backSizeAt, backOffsetAt}
-use Rattle.image.specs.Image.{Entry, Placed, headSize, entryBytes, entrySize, placed, ofTable, count, bucketOf, entriesBefore, tableOffset, flagWord, backSize, backIn, backSizeOf, backOffset, entriesEnd, imageSize}
+use Rattle.image.specs.Image.{Entry, Placed, headSize, entryBytes, entrySize, placed, ofTable, count, bucketOf, entriesBefore, tableOffset, flagWord}
+use Rattle.image.specs.Image.{backSize, backIn, backSizeOf, backOffset, entriesEnd, imageSize}
 use Rattle.image.specs.Tables.{Bucket, empty, tableOf}
 use Rattle.image.specs.Tally.{tallied}
 use Rattle.image.proofs.EntryArea.{AllBytes, bytes-drop, bytes-take, whole-bytes, length-entriesIn, ids-words}
@@ -30,7 +31,8 @@ use Rattle.canonical.specs.steps.Made.{Storable, Made}
 use Rattle.canonical.specs.Canonical.{modeIn}
 use Rattle.canonical.specs.steps.InPlace.{bucketsInPlace}
 use Rattle.canonical.proofs.InPlace.{LinksIn, InPlace}
-use Rattle.canonical.specs.steps.Checks.{endIn, areaIn, checkedEntries, tableOk, rowCount, rowsOk, nameOk, notBefore, inItsBucket, twoWay, entryOk, linksCounted, Checked}
+use Rattle.canonical.specs.steps.Checks.{endIn, areaIn, checkedEntries, tableOk, rowCount, rowsOk, nameOk, notBefore, inItsBucket, twoWay, entryOk}
+use Rattle.canonical.specs.steps.Checks.{linksCounted, Checked}
 use Rattle.canonical.proofs.Concatenation.{length-bucketsInPlace}
 use Rattle.canonical.proofs.TableChecks.{opens, table-facts, Row, rows-facts, counts-facts, row-count}
 use Rattle.canonical.proofs.EntryChecks.{bucket-facts, entries-facts, to-table, links-facts}

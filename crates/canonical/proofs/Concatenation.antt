@@ -27,7 +27,8 @@ at-join {img} {o} xs ys a b = record {
 }
 
 pub at-all : (img bs : List ℕ) → At img 0 bs → length img ≡ length bs → bs ≡ img
-at-all img bs a e = sym (a .stands ∙ ap (λ (l : List ℕ). bs ++ l) (none (a .post) (omega (arith, ap length (a .stands), length-append bs (a .post)))) ∙ append-nil bs)
+at-all img bs a e =
+    sym (a .stands ∙ ap (λ (l : List ℕ). bs ++ l) (none (a .post) (omega (arith, ap length (a .stands), length-append bs (a .post)))) ∙ append-nil bs)
   where
     none : (l : List ℕ) → length l ≡ 0 → l ≡ []
     none [] h = refl

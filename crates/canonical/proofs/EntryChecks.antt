@@ -53,11 +53,13 @@ module _ (img : List ℕ) (b : Bucket) where
     unfolding bucketTaken o n T
     taken-is =
         ap (λ (k : ℕ). o + 8 * k)
-        (sym (firstEmpty-ext (atOf (hideFrom (b .at) T)) (λ (k : ℕ). hidden (b .at) (offsetAt img o k)) n one n (start (b .hash) n) (mod-lt (b .hash / 256) some)))
+        (sym (firstEmpty-ext (atOf (hideFrom (b .at) T)) (λ (k : ℕ). hidden (b .at) (offsetAt img o k)) n one n (start (b .hash) n)
+        (mod-lt (b .hash / 256) some)))
       where
         one : (k : ℕ) → k < n → atOf (hideFrom (b .at) T) k ≡ hidden (b .at) (offsetAt img o k)
         one k h =
-            ap (λ (x : Bucket). x .at) (getD-hideFrom (b .at) T k ∙ ap (hide (b .at)) (getD-bucketsInPlace img o n k h)) ∙ hide-at (b .at) (bucketAt img (o + 8 * k))
+            ap (λ (x : Bucket). x .at) (getD-hideFrom (b .at) T k ∙ ap (hide (b .at)) (getD-bucketsInPlace img o n k h))
+            ∙ hide-at (b .at) (bucketAt img (o + 8 * k))
 
     read : getD T (putBucket n T b) empty ≡ bucketAt img (bucketTaken img (b .hash) (b .at))
     unfolding T o n
@@ -65,7 +67,8 @@ module _ (img : List ℕ) (b : Bucket) where
 
   pub bucket-facts : inItsBucket img (b .hash) (b .at) ≡ true
       → getD (bucketsInPlace img (tableAt img (tableOf (b .hash))) (bucketNumber img (tableOf (b .hash))))
-      (putBucket (bucketNumber img (tableOf (b .hash))) (bucketsInPlace img (tableAt img (tableOf (b .hash))) (bucketNumber img (tableOf (b .hash)))) b) empty ≡ b
+      (putBucket (bucketNumber img (tableOf (b .hash))) (bucketsInPlace img (tableAt img (tableOf (b .hash))) (bucketNumber img (tableOf (b .hash)))) b)
+      empty ≡ b
   unfolding inItsBucket T o n
   bucket-facts h =
       let s = bucketTaken img (b .hash) (b .at) in
@@ -73,7 +76,8 @@ module _ (img : List ℕ) (b : Bucket) where
       let q = eqb (word img s) (b .hash) in
       let r = eqb (word img (s + 4)) (b .at) in
       let pq = and-first (p && q) r h in
-      read (positive (and-first p q pq)) ∙ two (eqb-true (word img s) (b .hash) (and-second p q pq)) (eqb-true (word img (s + 4)) (b .at) (and-second (p && q) r h))
+      read (positive (and-first p q pq))
+      ∙ two (eqb-true (word img s) (b .hash) (and-second p q pq)) (eqb-true (word img (s + 4)) (b .at) (and-second (p && q) r h))
     where
       positive : not (eqb n 0) ≡ true → 0 < n
       positive t =
@@ -89,7 +93,8 @@ module _ (img : List ℕ) (b : Bucket) where
 
   pub bucket-checked : 0 < b .at
       → getD (bucketsInPlace img (tableAt img (tableOf (b .hash))) (bucketNumber img (tableOf (b .hash))))
-      (putBucket (bucketNumber img (tableOf (b .hash))) (bucketsInPlace img (tableAt img (tableOf (b .hash))) (bucketNumber img (tableOf (b .hash)))) b) empty ≡ b
+      (putBucket (bucketNumber img (tableOf (b .hash))) (bucketsInPlace img (tableAt img (tableOf (b .hash))) (bucketNumber img (tableOf (b .hash)))) b)
+      empty ≡ b
       → inItsBucket img (b .hash) (b .at) ≡ true
   unfolding inItsBucket T o n
   bucket-checked pos e =

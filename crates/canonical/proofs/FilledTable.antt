@@ -18,7 +18,8 @@ use Rattle.image.proofs.Buckets.{length-probeSequence}
 use Rattle.lookup_laws.proofs.ProbeSequence.{probeSequence-at, place-of}
 use Rattle.canonical.specs.steps.HiddenBuckets.{countAtLeast, Rising, bucketOffsets, hide, hideFrom, putBucket, TableMatches}
 use Rattle.canonical.proofs.CountAtLeast.{countAtLeast-none, countAtLeast-set, countAtLeast-room, rising-less}
-use Rattle.canonical.proofs.HiddenBuckets.{hide-shows, hide-hides, hide-empty, getD-hideFrom, length-hideFrom, getD-bucketOffsets, length-bucketOffsets, hideFrom-is}
+use Rattle.canonical.proofs.HiddenBuckets.{hide-shows, hide-hides, hide-empty, getD-hideFrom, length-hideFrom, getD-bucketOffsets}
+use Rattle.canonical.proofs.HiddenBuckets.{length-bucketOffsets, hideFrom-is}
 
 -- ---- the first empty bucket of a search
 
@@ -103,7 +104,8 @@ module _ (n : ℕ) (table : List Bucket) (m a : ℕ) (b : Bucket) (t : Inserted 
 
   pub hidden : (c : ℕ) → c ≤ b .at → hideFrom c (insert n table b) ≡ hideFrom c table
   hidden c h =
-      hideFrom-is c (insert n table b) (hideFrom c table) (length-hideFrom c table ∙ sym (length-insert n table b)) (λ k l. each k ∙ sym (getD-hideFrom c table k))
+      hideFrom-is c (insert n table b) (hideFrom c table) (length-hideFrom c table ∙ sym (length-insert n table b))
+      (λ k l. each k ∙ sym (getD-hideFrom c table k))
     where
       each : (k : ℕ) → hide c (getD (insert n table b) k empty) ≡ hide c (getD table k empty)
       each k =
@@ -135,7 +137,8 @@ module _ (n : ℕ) (table : List Bucket) (m a : ℕ) (b : Bucket) (t : Inserted 
       used : countAtLeast 1 (bucketOffsets (insert n table b)) ≡ suc m
       used =
           ap (countAtLeast 1) bucketOffsets-insert
-          ∙ countAtLeast-set (bucketOffsets table) slot (b .at) (rw (length-bucketOffsets table) there) (getD-bucketOffsets table slot ∙ slot-empty) (omega arith)
+          ∙ countAtLeast-set (bucketOffsets table) slot (b .at) (rw (length-bucketOffsets table) there) (getD-bucketOffsets table slot ∙ slot-empty)
+          (omega arith)
           ∙ one (countAtLeast 1 (bucketOffsets table)) (t .used)
         where
           one : (x : ℕ) → x ≡ m → x + 1 ≡ suc m
@@ -149,7 +152,8 @@ module _ (n : ℕ) (table : List Bucket) (m a : ℕ) (b : Bucket) (t : Inserted 
           ]
 
   -- the entry in a later table in which no bucket below its offset or at it has changed
-  pub kept-later : (later : List Bucket) → hideFrom (b .at) later ≡ hideFrom (b .at) table → hideFrom (suc (b .at)) later ≡ hideFrom (suc (b .at)) (insert n table b)
+  pub kept-later : (later : List Bucket) → hideFrom (b .at) later ≡ hideFrom (b .at) table
+      → hideFrom (suc (b .at)) later ≡ hideFrom (suc (b .at)) (insert n table b)
       → getD later (putBucket n later b) empty ≡ b
   kept-later later p q =
       ap (λ (k : ℕ). getD later k empty) same-place ∙ shown (decLt (atOf later slot) (suc (b .at)))

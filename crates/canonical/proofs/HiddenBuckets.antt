@@ -81,7 +81,8 @@ module _ (n : ℕ) (table : List Bucket) (b : Bucket) (pos : 0 < b .at) (stands 
     only k h p q =
         let e = getD-bucketOffsets table k in
         let f = getD-bucketOffsets table (putBucket n table b) ∙ putBucket-at in
-        countAtLeast-only a (suc (b .at)) (bucketOffsets table) k (putBucket n table b) one (rw (length-bucketOffsets table) h) (rw (length-bucketOffsets table) putBucket-in)
+        countAtLeast-only a (suc (b .at)) (bucketOffsets table) k (putBucket n table b) one (rw (length-bucketOffsets table) h)
+        (rw (length-bucketOffsets table) putBucket-in)
         (omega arith) (omega arith) (omega arith) (omega arith)
 
     same-hidden : hideFrom a table ≡ hideFrom (b .at) table
@@ -157,7 +158,8 @@ filled-from n table a [] p r s e = hideFrom-is a table table refl (λ k h. hide-
           | yes q ↦ q
           | no q ↦
               let f = getD-bucketOffsets table k in
-              absurd (omega (arith, countAtLeast-in a (suc (atOf table k)) (bucketOffsets table) k (rw (length-bucketOffsets table) h) (omega arith) (omega arith)))
+              let inside : k < length (bucketOffsets table) = rw (length-bucketOffsets table) h in
+              absurd (omega (arith, countAtLeast-in a (suc (atOf table k)) (bucketOffsets table) k inside (omega arith) (omega arith)))
         ]
 filled-from n table a (b ∷ bs) p r s e =
     let h = r .0 in

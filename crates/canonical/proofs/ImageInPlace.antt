@@ -7,7 +7,8 @@ use lib.ListN.{length, getD, length-map}
 use lib.Seq.{ext-getD}
 use Rattle.jhash.proofs.Outcomes.{hashOf-below}
 use Rattle.image.specs.Bytes.{word, le32}
-use Rattle.image.specs.Image.{Entry, Placed, headSize, placed, inTable, ofTable, count, bucketOf, bucketBytes, table, entriesBefore, hasId, placedOfId, lastFrom, backWord, backSizeOf, entriesEnd, imageSize, image}
+use Rattle.image.specs.Image.{Entry, Placed, headSize, placed, inTable, ofTable, count, bucketOf, bucketBytes, table, entriesBefore, hasId, placedOfId}
+use Rattle.image.specs.Image.{lastFrom, backWord, backSizeOf, entriesEnd, imageSize, image}
 use Rattle.image.specs.Tables.{Bucket, empty}
 use Rattle.image.proofs.At.{at-left, at-word, at-second}
 use Rattle.image.proofs.Buckets.{filled-all}
@@ -97,7 +98,8 @@ module _ (mode : Mode) (es : List Entry) (fits : imageSize mode es ≤ 429496729
       links-by-mode : (f : Mode) → imageSize f es ≤ 4294967295 → LinksIn f (image f es) es
       links-by-mode Oneway h = tt
       links-by-mode Twoway h =
-          links-match (wordsAt (image Twoway es) o n) (placed headSize es) (rising-less 1 headSize (offsets (placed headSize es)) (omega arith) (rises headSize es))
+          links-match (wordsAt (image Twoway es) o n) (placed headSize es)
+          (rising-less 1 headSize (offsets (placed headSize es)) (omega arith) (rises headSize es))
           (rw (length-wordsAt (image Twoway es) o n) (all-placed (λ (e : Entry). e .id < n) headSize es (ids-below es n (omega arith))))
           (λ i l. let m : i < n = rw (length-wordsAt (image Twoway es) o n) at l in
           getD-wordsAt (image Twoway es) o n i m ∙ at-word (backWord (placed headSize es) i) (backWord-at Twoway es h i m) (link-below Twoway es h i))

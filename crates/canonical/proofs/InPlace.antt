@@ -5,7 +5,8 @@ use mathlib.Core.Bool.{true}
 use mathlib.Core.List.{List, map}
 use lib.ListN.{length}
 use Rattle.image.specs.Bytes.{word, cat}
-use Rattle.image.specs.Image.{Entry, headSize, entryBytes, placed, ofTable, count, bucketOf, entriesBefore, tableOffset, flagWord, backSizeOf, backOffset, entriesEnd, imageSize}
+use Rattle.image.specs.Image.{Entry, headSize, entryBytes, placed, ofTable, count, bucketOf, entriesBefore, tableOffset, flagWord, backSizeOf, backOffset}
+use Rattle.image.specs.Image.{entriesEnd, imageSize}
 use Rattle.image.specs.Head.{tableAt, bucketNumber}
 use Rattle.image.specs.declared.Mode.{Mode}
 use Rattle.image.specs.declared.Mode.the-variants.{Twoway, Oneway}

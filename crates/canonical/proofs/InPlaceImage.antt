@@ -8,14 +8,17 @@ use lib.Dec.{eqb}
 use lib.ListN.{length, getD, drop, length-append}
 use borrow.Author.Tests.{eqb-true}
 use Rattle.image.specs.Bytes.{word, le32, cat, range}
-use Rattle.image.specs.Image.{Entry, Placed, headSize, entryBytes, placed, ofTable, count, bucketOf, bucketBytes, table, tableBytes, entriesBefore, tableOffset, tableRow, tableRows, tables, backWord, backWords, flagWord, backSizeOf, backOffset, entriesEnd, imageSize, headWords, image}
+use Rattle.image.specs.Image.{Entry, Placed, headSize, entryBytes, placed, ofTable, count, bucketOf, bucketBytes, table, tableBytes, entriesBefore}
+use Rattle.image.specs.Image.{tableOffset, tableRow, tableRows, tables, backWord, backWords, flagWord, backSizeOf, backOffset, entriesEnd, imageSize}
+use Rattle.image.specs.Image.{headWords, image}
 use Rattle.image.specs.Tables.{Bucket, empty}
 use Rattle.image.proofs.EntryArea.{AllBytes}
 use Rattle.image.proofs.At.{At, at-same, at-equal}
 use Rattle.image.proofs.Bools.{and-first, and-second}
 use Rattle.image.proofs.Lists.{length-range, getD-range}
 use Rattle.image.proofs.Parts.{before-most}
-use Rattle.image.proofs.Sizes.{length-entries, length-placed, length-bucketBytes, length-table, length-tableBytes, length-tables, length-headWords, length-tableRow, length-tableRows, length-image}
+use Rattle.image.proofs.Sizes.{length-entries, length-placed, length-bucketBytes, length-table, length-tableBytes, length-tables, length-headWords}
+use Rattle.image.proofs.Sizes.{length-tableRow, length-tableRows, length-image}
 use Rattle.image.proofs.Words.{length-le32}
 use Rattle.reader.specs.Open.{hasLetters}
 use Rattle.image.specs.declared.Mode.{Mode}
@@ -26,7 +29,8 @@ use Rattle.canonical.proofs.HiddenBuckets.{matching-filled}
 use Rattle.canonical.proofs.BackArray.{offsets, matching-link}
 use Rattle.canonical.specs.steps.InPlace.{bucketsInPlace, wordsAt}
 use Rattle.canonical.proofs.InPlace.{LinksIn, InPlace}
-use Rattle.canonical.proofs.Concatenation.{at-nothing, at-join, at-all, at-cat, at-parts, at-le32, at-two, getD-bucketsInPlace, getD-wordsAt, length-wordsAt}
+use Rattle.canonical.proofs.Concatenation.{at-nothing, at-join, at-all, at-cat, at-parts, at-le32, at-two, getD-bucketsInPlace, getD-wordsAt}
+use Rattle.canonical.proofs.Concatenation.{length-wordsAt}
 use Rattle.canonical.proofs.RisingOffsets.{rises, rises-table}
 
 abbrev letters : List ℕ
@@ -155,18 +159,21 @@ module _ (img : List ℕ) (mode : Mode) (es : List Entry) (bytes : AllBytes img)
           → At img (entriesEnd es + 16 * length es) (cat (λ (i : ℕ). le32 (backWord (placed headSize es) i)) (range 0 (backSizeOf f es)))
       links-by-mode Oneway e k = at-nothing img (entriesEnd es + 16 * length es)
       links-by-mode Twoway e k =
-          at-parts (λ (i : ℕ). le32 (backWord (placed headSize es) i)) 4 (λ i. length-le32 (backWord (placed headSize es) i)) o (range 0 (backSizeOf Twoway es)) 0 each
+          at-parts (λ (i : ℕ). le32 (backWord (placed headSize es) i)) 4 (λ i. length-le32 (backWord (placed headSize es) i)) o
+          (range 0 (backSizeOf Twoway es)) 0 each
         where
           o : ℕ
           o = entriesEnd es + 16 * length es
 
-          each : (i : ℕ) → i < length (range 0 (backSizeOf Twoway es)) → At img (o + 4 * i) (le32 (backWord (placed headSize es) (getD (range 0 (backSizeOf Twoway es)) i 0)))
+          each : (i : ℕ) → i < length (range 0 (backSizeOf Twoway es))
+              → At img (o + 4 * i) (le32 (backWord (placed headSize es) (getD (range 0 (backSizeOf Twoway es)) i 0)))
           each i h =
               let m : i < backSizeOf Twoway es = rw (length-range 0 (backSizeOf Twoway es)) at h in
               let z : 0 + i ≡ i = omega arith in
               at-equal (ap (λ (j : ℕ). le32 (backWord (placed headSize es) j)) (sym (getD-range 0 (backSizeOf Twoway es) i m ∙ z)))
               (at-le32 img (o + 4 * i) (backWord (placed headSize es) i) bytes (omega (arith, e))
-              (sym (matching-link (wordsAt img o (backSizeOf Twoway es)) (placed headSize es) (rising-less 1 headSize (offsets (placed headSize es)) (omega arith) (rises headSize es)) k i
+              (sym (matching-link (wordsAt img o (backSizeOf Twoway es)) (placed headSize es)
+              (rising-less 1 headSize (offsets (placed headSize es)) (omega arith) (rises headSize es)) k i
               (rw (length-wordsAt img o (backSizeOf Twoway es)) m)
               ∙ getD-wordsAt img o (backSizeOf Twoway es) i m)))
 

@@ -86,7 +86,8 @@ sizeOf-more Oneway xs ys = omega (arith, putsSize-more xs ys)
 none-due : (mode : Mode) (n : ℕ) (done : List Entry) (e : Entry) → hasZero (e .name) ≡ false → sizeOf mode (done ++ (e ∷ [])) ≤ n
     → sizeOf mode (done ++ (e ∷ [])) ≤ 4294967295 → putDue mode On n done e ≡ 0
 unfolding putDue
-none-due mode n done e free h k = rw (free, and-false (containsName (e .name) done), le-ltb n (sizeOf mode (done ++ (e ∷ []))) h, le-ltb 4294967295 (sizeOf mode (done ++ (e ∷ []))) k)
+none-due mode n done e free h k =
+    rw (free, and-false (containsName (e .name) done), le-ltb n (sizeOf mode (done ++ (e ∷ []))) h, le-ltb 4294967295 (sizeOf mode (done ++ (e ∷ []))) k)
 
 all-accepted : (mode : Mode) (n : ℕ) (done es : List Entry) → All Storable es → sizeOf mode (done ++ es) ≤ n → sizeOf mode (done ++ es) ≤ 4294967295
     → acceptedFrom mode On n done (putAll es) ≡ done ++ es

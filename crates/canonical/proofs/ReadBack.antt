@@ -41,7 +41,8 @@ parsed-front (e ∷ es) rest ok =
 pub flag-image : (mode : Mode) (es : List Entry) → word (image mode es) 8 ≡ flagWord mode
 unfolding headWords
 flag-image mode es =
-    let a : At (image mode es) 0 (to-8 ++ le32 (flagWord mode) ++ le32 0x62445371 ++ le32 (backSizeOf mode es) ++ le32 (backOffset mode es)) = head-at mode es in
+    let a : At (image mode es) 0 (to-8 ++ le32 (flagWord mode) ++ le32 0x62445371 ++ le32 (backSizeOf mode es) ++ le32 (backOffset mode es)) =
+    head-at mode es in
     let b = at-left (to-8 ++ le32 (flagWord mode) ++ le32 0x62445371 ++ le32 (backSizeOf mode es)) (le32 (backOffset mode es)) a in
     let c = at-left (to-8 ++ le32 (flagWord mode) ++ le32 0x62445371) (le32 (backSizeOf mode es)) b in
     let d = at-left (to-8 ++ le32 (flagWord mode)) (le32 0x62445371) c in

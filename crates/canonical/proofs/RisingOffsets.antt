@@ -19,7 +19,8 @@ unfolding filter
 rises-keep test a [] r = tt
 rises-keep test a (p ∷ ps) r = either-rises (test p) (rises-keep test (suc (p .at)) ps (r .1))
   where
-    either-rises : (t : Bool) → Rising (suc (p .at)) (bucketOffsets (map bucketOf (filter test ps))) → Rising a (bucketOffsets (map bucketOf (cond t (p ∷ filter test ps) (filter test ps))))
+    either-rises : (t : Bool) → Rising (suc (p .at)) (bucketOffsets (map bucketOf (filter test ps)))
+        → Rising a (bucketOffsets (map bucketOf (cond t (p ∷ filter test ps) (filter test ps))))
     either-rises true rest = (r .0, rest)
     either-rises false rest = let h = r .0 in rising-less a (suc (p .at)) (bucketOffsets (map bucketOf (filter test ps))) (omega arith) rest
 

@@ -2,18 +2,21 @@
 use Prim.Native.Nat.{ℕ, zero, suc, _+_, _*_, _≤_, _<_}
 use native.Mathlib.Omega.{arith}
 use mathlib.Core.Path.{_≡_, refl, sym, ap, ap₂, _∙_}
-use mathlib.Core.Bool.{Bool, true, false, cond}
+use mathlib.Core.Bool.{Bool, true, false, cond, _&&_}
 use mathlib.Core.List.{List, [], _∷_, _++_, map}
 use lib.ListN.{length, replicate}
 use lib.Dec.{eqb, ltb, lit≤, lit<}
 use borrow.Author.Tests.{ltb-true}
 use Rattle.image.specs.Bytes.{word, le32, cat, filter, range, same}
 use Rattle.image.specs.Head.{backSizeAt, backOffsetAt}
-use Rattle.image.specs.Image.{headSize, imageSize, containsName, entryBytes, entriesSize, placed, ofTable, bucketBytes, table, tableBytes, entriesBefore, tableOffset, tableRow, backSize, placedOfId, lastFrom, backWord, backOffset, headBytes, headWords, tableRows, tables, backWords, image}
+use Rattle.image.specs.Image.{headSize, imageSize, containsName, entryBytes, entriesSize, placed, ofTable, bucketBytes, table, tableBytes, entriesBefore}
+use Rattle.image.specs.Image.{tableOffset, tableRow, backSize, placedOfId, lastFrom, backWord, backOffset, headBytes, headWords, tableRows, tables}
+use Rattle.image.specs.Image.{backWords, image}
 use Rattle.image.specs.Tables.{probeSequence, firstEmpty, insert, insertAll, filled}
 use Rattle.image.specs.Zero.{hasZero}
 use Rattle.image.specs.declared.Mode.the-variants.{Oneway}
 use Rattle.image.proofs.AllOfList.{All, all-map}
+use Rattle.image.proofs.Bools.{and-first, and-second}
 use Rattle.writer.proofs.Agree.{zeros}
 use Rattle.lists.specs.Calls.{acceptedFrom, accepted, putDue, putsSize, sizeOf, WordIds}
 use Rattle.lists.proofs.CallLists.{list-accepted}
@@ -60,7 +63,8 @@ rows-hold = all-map holds-in canonicalRows computed
 
 -- the empty one-way image
 empty-image : image Oneway [] ≡ headBytes 2072 1 0 0 ++ replicate 2048 0
-unfolding le32 cat filter range entryBytes entriesSize placed ofTable bucketBytes table tableBytes entriesBefore tableOffset tableRow backSize placedOfId lastFrom backWord backOffset headBytes headWords tableRows tables backWords image probeSequence firstEmpty insert insertAll filled
+unfolding le32 cat filter range entryBytes entriesSize placed ofTable bucketBytes table tableBytes entriesBefore tableOffset tableRow backSize placedOfId
+    lastFrom backWord backOffset headBytes headWords tableRows tables backWords image probeSequence firstEmpty insert insertAll filled
 empty-image = refl
 
 empty-fits : imageSize Oneway [] ≤ 4294967295
@@ -78,11 +82,19 @@ bytes-behind [] r a b i = b i
 bytes-behind (x ∷ l) r a b zero = a .0
 bytes-behind (x ∷ l) r a b (suc i) = bytes-behind l r (a .1) b i
 
+below-256 : List ℕ → Bool
+below-256 [] = true
+below-256 (x ∷ l) = ltb x 256 && below-256 l
+
+each-below : (l : List ℕ) → below-256 l ≡ true → All (λ (x : ℕ). x < 256) l
+unfolding below-256
+each-below [] h = tt
+each-below (x ∷ l) h =
+    (ltb-true x 256 (and-first (ltb x 256) (below-256 l) h), each-below l (and-second (ltb x 256) (below-256 l) h))
+
 head-bytes : All (λ (x : ℕ). x < 256) (headBytes 2072 0 0 2072)
-unfolding headBytes le32
-head-bytes =
-    let b : (x : ℕ) → ltb x 256 ≡ true → x < 256 = λ x h. ltb-true x 256 h in
-    (b _ refl, (b _ refl, (b _ refl, (b _ refl, (b _ refl, (b _ refl, (b _ refl, (b _ refl, (b _ refl, (b _ refl, (b _ refl, (b _ refl, (b _ refl, (b _ refl, (b _ refl, (b _ refl, (b _ refl, (b _ refl, (b _ refl, (b _ refl, (b _ refl, (b _ refl, (b _ refl, (b _ refl, tt))))))))))))))))))))))))
+unfolding headBytes le32 below-256
+head-bytes = each-below (headBytes 2072 0 0 2072) refl
 
 -- a back offset without a back array
 no-array : backSizeAt (headBytes 2072 0 0 2072 ++ replicate 2048 0) ≡ 0

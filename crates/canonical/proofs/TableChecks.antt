@@ -50,7 +50,9 @@ unfolding somePastEnd
 none-past-end img t zero k e l h some = absurd (omega arith)
 none-past-end img t (suc m) k e l h some = elim (ℕ-discrete t k) [
   | yes y ↦ inside-here (rw y at e)
-  | no d ↦ none-past-end img (suc t) m k (or-false-second (ltb 0 (tableAt img t) && tablePastEnd img t) (somePastEnd img (suc t) m) e) (omega arith) (omega arith) some
+  | no d ↦
+      let rest = or-false-second (ltb 0 (tableAt img t) && tablePastEnd img t) (somePastEnd img (suc t) m) e in
+      none-past-end img (suc t) m k rest (omega arith) (omega arith) some
 ]
   where
     inside-here : ((ltb 0 (tableAt img k) && tablePastEnd img k) || somePastEnd img (suc k) m) ≡ false → tableAt img k + 8 * bucketNumber img k ≤ length img
@@ -108,7 +110,8 @@ module _ (img : List ℕ) (o c : ℕ) where
           let g = getD-bucketsInPlace img o (2 * c) k l in
           elim (ℕ-discrete (word img (o + 8 * k + 4)) 0) [
             | yes a ↦
-                let b : word img (o + 8 * k) ≡ 0 = sym (ap (λ (b : Bucket). b .hash) g) ∙ ap (λ (b : Bucket). b .hash) (z k (ap (λ (b : Bucket). b .at) g ∙ a)) in
+                let b : word img (o + 8 * k) ≡ 0 =
+                sym (ap (λ (b : Bucket). b .hash) g) ∙ ap (λ (b : Bucket). b .hash) (z k (ap (λ (b : Bucket). b .at) g ∙ a)) in
                 rw (eq-eqb (word img (o + 8 * k + 4)) 0 a) (eq-eqb (word img (o + 8 * k)) 0 b)
             | no d ↦ rw (ne-eqb (word img (o + 8 * k + 4)) 0 d)
           ]
@@ -179,7 +182,8 @@ module _ (img : List ℕ) where
     rows-checked t (suc m) k each =
         let z : t + 0 ≡ t = omega arith in
         row-checked (pos t) t m (rw z at (each 0 (omega arith)))
-        (ap (λ (o : ℕ). rowsOk img o (suc t) m) (sym (grow t (omega arith))) ∙ rows-checked (suc t) m (omega arith) (λ i l. shift i (each (suc i) (omega arith))))
+        (ap (λ (o : ℕ). rowsOk img o (suc t) m) (sym (grow t (omega arith)))
+        ∙ rows-checked (suc t) m (omega arith) (λ i l. shift i (each (suc i) (omega arith))))
       where
         shift : (i : ℕ) → Row img (pos (t + suc i)) (t + suc i) → Row img (pos (suc t + i)) (suc t + i)
         shift i r = let z : t + suc i ≡ suc t + i = omega arith in rw z at r

@@ -127,8 +127,9 @@ module _ {img : List ℕ} {end o t : ℕ} (r : Rows img end o t) where
     turn =
         let p : 256 - t ≡ suc (256 - (t + 1)) = omega arith in
         let q : t + 1 ≡ suc t = omega arith in
-        ap (λ (k : ℕ). eqb (bucketNumber img t) (2 * rowCount img t) && eqb (tableAt img t) (cond (eqb (rowCount img t) 0) 0 o) && tableOk img o (rowCount img t)
-        && rowsOk img (o + 16 * rowCount img t) k (256 - (t + 1))) q
+        let c = rowCount img t in
+        let here = eqb (bucketNumber img t) (2 * c) && eqb (tableAt img t) (cond (eqb c 0) 0 o) && tableOk img o c in
+        ap (λ (k : ℕ). here && rowsOk img (o + 16 * c) k (256 - (t + 1))) q
         ∙ sym (ap (λ (m : ℕ). rowsOk img o t m) p)
         ∙ r .same
 

@@ -30,7 +30,8 @@ use Rattle.canonical.specs.Canonical.{Canonical, counted, putsIn, modeIn
 use Rattle.canonical.specs.theorems.CanonicalImages.{CanonicalImage, CanonicalHolds}
 use Rattle.canonical.proofs.ReadBack.{names-bytes, made-puts, made-mode, canonical-yes, canonical-only}
 use Rattle.canonical.proofs.ChecksHold.{canonical-checked}
-use Rattle.canonical.proofs.ListImages.{words, list-made, list-puts, list-mode, lists-injective, accepted-all, made-accepted, made-closes, made-size, made-room}
+use Rattle.canonical.proofs.ListImages.{words, list-made, list-puts, list-mode, lists-injective, accepted-all, made-accepted, made-closes, made-size}
+use Rattle.canonical.proofs.ListImages.{made-room}
 
 -- ---- each entry's name is found
 
@@ -47,7 +48,8 @@ names-first done (e ∷ es) = (own, rw (append-assoc done (e ∷ []) es) at (nam
     own =
         let test = hasName (e .name) in
         let s = first-some (ofName (e .name) done) (ofName (e .name) es) e in
-        (s .0, ap firstId (filter-append test done (e ∷ es) ∙ ap (λ (l : List Entry). ofName (e .name) done ++ l) (filter-yes test e es (same-self (e .name)))) ∙ s .1)
+        let kept = ap (λ (l : List Entry). ofName (e .name) done ++ l) (filter-yes test e es (same-self (e .name))) in
+        (s .0, ap firstId (filter-append test done (e ∷ es) ∙ kept) ∙ s .1)
 
 -- ---- a canonical image, and longer bytes
 

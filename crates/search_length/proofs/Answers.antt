@@ -32,51 +32,56 @@ first-zero true n e = (refl, not-empty (eqb n 0) refl e)
         ]
 first-zero false n e = absurd (omega arith)
 
-module _ (image : List ℕ) (n : ℕ) (number : n ≡ counted (opening image)) where
+-- what both calls ask first: the number of entries, whether the image is canonical, and the refusal, 0 for none
+pub record Asked (image : List ℕ) (n : ℕ) (own : Bool) (r : ℕ) : Type 0 where
+  pub number : n ≡ counted (opening image)
+  pub canonical-is : own ≡ canonical image
+  pub first-is : r ≡ firstRefusal own n
+
+module _ {image : List ℕ} {n : ℕ} {own : Bool} {r : ℕ} (q : Asked image n own r) where
   number-is : n ≡ entryCount image
-  number-is = number ∙ sym (puts-number image)
+  number-is = q .number ∙ sym (puts-number image)
 
   -- the refusal, or none
-  refusal-is : (own : Bool) (r : ℕ) → own ≡ canonical image → r ≡ firstRefusal own n → r ≡ averageRefusal image
+  refusal-is : r ≡ averageRefusal image
   unfolding averageRefusal
-  refusal-is own r a b = b ∙ ap₂ firstRefusal a number-is
+  refusal-is = q .first-is ∙ ap₂ firstRefusal (q .canonical-is) number-is
 
-  module _ (own : Bool) (r : ℕ) (a : own ≡ canonical image) (b : r ≡ firstRefusal own n) where
-    pub refused : (r ≡ 0 → ⊥) → refusal r ≡ averaging image
-    unfolding averaging
-    refused d =
-        let e = refusal-is own r a b in
-        ap (λ (k : ℕ). refusal k) e ∙ ap (λ (t : Bool). cond t (value (averageOf image)) (refusal (averageRefusal image))) (sym (ap (λ (k : ℕ). eqb k 0) (sym e) ∙ ne-eqb r 0 d))
+  none-refused : r ≡ 0 → true ≡ eqb (averageRefusal image) 0
+  none-refused z = sym (ap (λ (k : ℕ). eqb k 0) (sym refusal-is) ∙ eq-eqb r 0 z)
 
-    pub some-entries : r ≡ 0 → 0 < n
-    some-entries z = first-zero own n (sym b ∙ z) .1
+  one-refused : (r ≡ 0 → ⊥) → false ≡ eqb (averageRefusal image) 0
+  one-refused d = sym (ap (λ (k : ℕ). eqb k 0) (sym refusal-is) ∙ ne-eqb r 0 d)
 
-    pub accepted : r ≡ 0 → CanonicalImage image n
-    accepted z = record { canonical = sym a ∙ first-zero own n (sym b ∙ z) .0; number = number }
+  pub refused : (r ≡ 0 → ⊥) → refusal r ≡ averaging image
+  unfolding averaging
+  refused d =
+      ap (λ (k : ℕ). refusal k) refusal-is
+      ∙ ap (λ (t : Bool). cond t (value (averageOf image)) (refusal (averageRefusal image))) (one-refused d)
 
-    pub averaged : (counts : List ℕ) (sum : ℕ) → r ≡ 0 → Counted image counts sum
-        → value (record { entries = n; quotient = sum / n; remainder = sum % n }) ≡ averaging image
-    unfolding averaging
-    averaged counts sum z c =
-        let e = refusal-is own r a b in
-        ap₂ averageFrom (c .total) number-is
-        ∙ ap (λ (q : Bool). cond q (value (averageOf image)) (refusal (averageRefusal image))) (sym (ap (λ (k : ℕ). eqb k 0) (sym e) ∙ eq-eqb r 0 z))
-      where
-        averageFrom : ℕ → ℕ → Outcome AverageLength
-        averageFrom s k = value (record { entries = k; quotient = s / k; remainder = s % k })
+  pub some-entries : r ≡ 0 → 0 < n
+  some-entries z = first-zero own n (sym (q .first-is) ∙ z) .1
 
-    -- the histogram: a refusal leaves the list as it was
-    pub refused-lengths : (counts : List ℕ) → (r ≡ 0 → ⊥) → Lengths image counts counts r
-    unfolding afterLengths
-    refused-lengths counts d =
-        let e = refusal-is own r a b in
-        record { answer = e; leaves = ap (λ (t : Bool). cond t (lengthsOf image) counts) (sym (ap (λ (k : ℕ). eqb k 0) (sym e) ∙ ne-eqb r 0 d)) }
+  pub accepted : r ≡ 0 → CanonicalImage image n
+  accepted z = record { canonical = sym (q .canonical-is) ∙ first-zero own n (sym (q .first-is) ∙ z) .0; number = q .number }
 
-    pub filled-lengths : (counts after : List ℕ) (sum : ℕ) → r ≡ 0 → Counted image after sum → Lengths image counts after 0
-    unfolding afterLengths
-    filled-lengths counts after sum z c =
-        let e = refusal-is own r a b in
-        record {
-          answer = sym z ∙ e;
-          leaves = c .lengths ∙ ap (λ (t : Bool). cond t (lengthsOf image) counts) (sym (ap (λ (k : ℕ). eqb k 0) (sym e) ∙ eq-eqb r 0 z));
-        }
+  pub averaged : {counts : List ℕ} {sum : ℕ} → r ≡ 0 → Counted image counts sum
+      → value (record { entries = n; quotient = sum / n; remainder = sum % n }) ≡ averaging image
+  unfolding averaging
+  averaged z c =
+      ap₂ averageFrom (c .total) number-is
+      ∙ ap (λ (t : Bool). cond t (value (averageOf image)) (refusal (averageRefusal image))) (none-refused z)
+    where
+      averageFrom : ℕ → ℕ → Outcome AverageLength
+      averageFrom s k = value (record { entries = k; quotient = s / k; remainder = s % k })
+
+  -- the histogram: a refusal leaves the list as it was
+  pub refused-lengths : (counts : List ℕ) → (r ≡ 0 → ⊥) → Lengths image counts counts r
+  unfolding afterLengths
+  refused-lengths counts d =
+      record { answer = refusal-is; leaves = ap (λ (t : Bool). cond t (lengthsOf image) counts) (one-refused d) }
+
+  pub filled-lengths : (counts : List ℕ) {after : List ℕ} {sum : ℕ} → r ≡ 0 → Counted image after sum → Lengths image counts after 0
+  unfolding afterLengths
+  filled-lengths counts z c =
+      record { answer = sym z ∙ refusal-is; leaves = c .lengths ∙ ap (λ (t : Bool). cond t (lengthsOf image) counts) (none-refused z) }

@@ -32,7 +32,8 @@ unfolding searchAlong
 probe-some look [] r f e = not-found r f e
 probe-some look (k ∷ ks) r f e = more-read (look k) (λ q. probe-some look ks (r + 1) f q) e
   where
-    more-read : (s : Probe) → (searchAlong look ks (r + 1) ≡ found f → r + 1 < f .buckets) → decide s (r + 1) (searchAlong look ks (r + 1)) ≡ found f → r < f .buckets
+    more-read : (s : Probe) → (searchAlong look ks (r + 1) ≡ found f → r + 1 < f .buckets) → decide s (r + 1) (searchAlong look ks (r + 1)) ≡ found f
+        → r < f .buckets
     more-read pass later e = omega (arith, later e)
     more-read ends later e = not-found (r + 1) f e
     more-read (hit h) later e = let z : r + 1 ≡ f .buckets = cc in omega arith
@@ -42,7 +43,10 @@ unfolding lookup lookupHash searchTable
 lookup-some img name f e = by-size (ltb (length img) headSize) e
   where
     searched : Lookup
-    searched = searchAlong (λ (k : ℕ). probeBucket img name (hashOf name) (tableAt img (tableOf (hashOf name)) + 8 * k)) (probeSequence (bucketNumber img (tableOf (hashOf name))) (bucketNumber img (tableOf (hashOf name))) (start (hashOf name) (bucketNumber img (tableOf (hashOf name))))) 0
+    searched =
+        let t = tableOf (hashOf name) in
+        let n = bucketNumber img t in
+        searchAlong (λ (k : ℕ). probeBucket img name (hashOf name) (tableAt img t + 8 * k)) (probeSequence n n (start (hashOf name) n)) 0
 
     by-table : (t : Bool) → cond t (nothing 0) searched ≡ found f → 0 < f .buckets
     by-table true q = not-found 0 f q
@@ -52,7 +56,10 @@ lookup-some img name f e = by-size (ltb (length img) headSize) e
     by-name true q = not-found 0 f q
     by-name false q = by-table (unsearched img (tableOf (hashOf name))) q
 
-    by-size : (t : Bool) → cond t (nothing 0) (cond (leb 4294967295 (length name)) (nothing 0) (cond (unsearched img (tableOf (hashOf name))) (nothing 0) searched)) ≡ found f → 0 < f .buckets
+    by-size : (t : Bool)
+        → cond t (nothing 0) (cond (leb 4294967295 (length name)) (nothing 0) (cond (unsearched img (tableOf (hashOf name))) (nothing 0) searched))
+        ≡ found f
+        → 0 < f .buckets
     by-size true q = not-found 0 f q
     by-size false q = by-name (leb 4294967295 (length name)) q
 
@@ -74,7 +81,8 @@ module _ (img : List ℕ) (bytes : AllBytes img) (own : canonical img ≡ true) 
   found-most : (name : List ℕ) (f : Found) → lookup img name ≡ found f → f .buckets ≤ tablePuts name (putsIn img)
   found-most name f e =
       let m = made in
-      let most = found-reads (m .mode) (m .puts) (m .fits) (backs (m .puts) (ids-of (m .puts) (m .each))) name f (ap (λ (i : List ℕ). lookup i name) (m .is) ∙ e) in
+      let most = found-reads (m .mode) (m .puts) (m .fits) (backs (m .puts) (ids-of (m .puts) (m .each))) name f
+      (ap (λ (i : List ℕ). lookup i name) (m .is) ∙ e) in
       rw (made-puts img m) most
 
   one-bounded : (e : Entry) → (id : ℕ) × (foundId (lookup img (e .name)) ≡ some id) → Bounded img (putsIn img) e

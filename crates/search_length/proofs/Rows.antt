@@ -10,7 +10,9 @@ use Rattle.jhash.specs.NameHash.{hashOf}
 use Rattle.jhash.specs.Outcome.{Outcome, value}
 use Rattle.jhash.proofs.Vectors.{hash-A, hash-I, hash-Q}
 use Rattle.image.specs.Bytes.{word, le32, cat, filter, range, same}
-use Rattle.image.specs.Image.{Entry, Placed, headSize, entrySize, entriesEnd, backSizeOf, bucketOf, imageSize, entryBytes, entriesSize, placed, ofTable, bucketBytes, table, tableBytes, entriesBefore, tableOffset, tableRow, backSize, placedOfId, lastFrom, backWord, backOffset, headBytes, headWords, tableRows, tables, backWords, image}
+use Rattle.image.specs.Image.{Entry, Placed, headSize, entrySize, entriesEnd, backSizeOf, bucketOf, imageSize, entryBytes, entriesSize, placed, ofTable}
+use Rattle.image.specs.Image.{bucketBytes, table, tableBytes, entriesBefore, tableOffset, tableRow, backSize, placedOfId, lastFrom, backWord, backOffset}
+use Rattle.image.specs.Image.{headBytes, headWords, tableRows, tables, backWords, image}
 use Rattle.image.specs.Tables.{Bucket, tableOf, probeSequence, firstEmpty, insert, insertAll, filled}
 use Rattle.image.specs.Stored.{entriesIn}
 use Rattle.image.specs.Zero.{hasZero}
@@ -113,7 +115,8 @@ module _ (mode : Mode) (e₁ e₂ : Entry) (h₁ h₂ : ℕ) (is₁ : hashOf (e�
   bytes-are =
       λ i.
       headWords mode es
-      ++ cat (λ (t : ℕ). le32 (cond (eqb (length (entries-of t i)) 0) 0 (entriesEnd es + 16 * before-is t i)) ++ le32 (2 * length (entries-of t i))) (range 0 256)
+      ++ cat (λ (t : ℕ). le32 (cond (eqb (length (entries-of t i)) 0) 0 (entriesEnd es + 16 * before-is t i)) ++ le32 (2 * length (entries-of t i)))
+      (range 0 256)
       ++ cat entryBytes es
       ++ cat (λ (t : ℕ). cat bucketBytes (filled (2 * length (entries-of t i)) (buckets-of t i))) (range 0 256)
       ++ backWords (p₁ ∷ p₂ ∷ []) (backSizeOf mode es)
@@ -126,16 +129,20 @@ module _ (mode : Mode) (e₁ e₂ : Entry) (h₁ h₂ : ℕ) (is₁ : hashOf (e�
       (sym (lookup-own bytes (e₂ .name) h₂ (λ s. sym is₂)))
 
 crowded : totalOf (image Twoway (letter 73 0 ∷ letter 81 1 ∷ [])) (letter 73 0 ∷ letter 81 1 ∷ []) ≡ 3
-unfolding word le32 cat range same entryBytes entriesSize bucketBytes backSize placedOfId lastFrom backWord backOffset headBytes headWords backWords probeSequence firstEmpty insert insertAll filled probeEntry probeBucket searchAlong searchTable lookupHash lookupBy before bytes
+unfolding word le32 cat range same entryBytes entriesSize bucketBytes backSize placedOfId lastFrom backWord backOffset headBytes headWords backWords
+    probeSequence firstEmpty insert insertAll filled probeEntry probeBucket searchAlong searchTable lookupHash lookupBy before bytes
 crowded = total-of Twoway (letter 73 0) (letter 81 1) 0xcae4bcb3 0x27d3a0b3 hash-I hash-Q
 
 repeated : totalOf (image Oneway (letter 65 5 ∷ letter 65 9 ∷ [])) (letter 65 5 ∷ letter 65 9 ∷ []) ≡ 2
-unfolding word le32 cat range same entryBytes entriesSize bucketBytes backSize placedOfId lastFrom backWord backOffset headBytes headWords backWords probeSequence firstEmpty insert insertAll filled probeEntry probeBucket searchAlong searchTable lookupHash lookupBy before bytes
+unfolding word le32 cat range same entryBytes entriesSize bucketBytes backSize placedOfId lastFrom backWord backOffset headBytes headWords backWords
+    probeSequence firstEmpty insert insertAll filled probeEntry probeBucket searchAlong searchTable lookupHash lookupBy before bytes
 repeated = total-of Oneway (letter 65 5) (letter 65 9) 0x89284101 0x89284101 hash-A hash-A
 
 -- no bytes are no image
 nothing : canonical [] ≡ false
-unfolding word le32 cat filter range same entryBytes entriesSize placed ofTable bucketBytes table tableBytes entriesBefore tableOffset tableRow backSize placedOfId lastFrom backWord backOffset headBytes headWords tableRows tables backWords image probeSequence firstEmpty insert insertAll filled entriesIn hasZero opening putsIn noZeroBytes canonical
+unfolding word le32 cat filter range same entryBytes entriesSize placed ofTable bucketBytes table tableBytes entriesBefore tableOffset tableRow backSize
+    placedOfId lastFrom backWord backOffset headBytes headWords tableRows tables backWords image probeSequence firstEmpty insert insertAll filled
+    entriesIn hasZero opening putsIn noZeroBytes canonical
 nothing = refl
 
 pub rows-hold : All Averages averageRows
@@ -145,7 +152,8 @@ rows-hold = (
   (
     averaged Oneway (letter 65 5 ∷ letter 65 9 ∷ []) (storable 65 5 refl (lit< tt), (storable 65 9 refl (lit< tt), tt)) (lit≤ tt) 2 2 refl (lit< tt) repeated,
     (
-      average-search .no-entries (image Twoway []) (canonical-yes (image Twoway []) (made Twoway [] tt (lit≤ tt))) (ap length (entries-are Twoway [] tt (lit≤ tt))),
+      average-search .no-entries (image Twoway []) (canonical-yes (image Twoway []) (made Twoway [] tt (lit≤ tt)))
+          (ap length (entries-are Twoway [] tt (lit≤ tt))),
       (average-search .not-canonical [] nothing, tt),
     ),
   ),

@@ -38,7 +38,8 @@ unfolding totalOf boundOf
 total-most img all [] b = omega arith
 total-most img all (e ∷ es) b = omega (arith, b .0 .1, total-most img all es (b .1))
 
-total-each : (img : List ℕ) (before : List Entry) (e : Entry) (behind : List Entry) → totalOf img (before ++ e ∷ behind) ≡ searchLength img e + totalOf img (before ++ behind)
+total-each : (img : List ℕ) (before : List Entry) (e : Entry) (behind : List Entry)
+    → totalOf img (before ++ e ∷ behind) ≡ searchLength img e + totalOf img (before ++ behind)
 unfolding totalOf
 total-each img [] e behind = refl
 total-each img (f ∷ before) e behind = omega (arith, total-each img before e behind)
@@ -52,7 +53,8 @@ places-kept t o [] = refl
 places-kept t o (e ∷ es) = either-kept (eqb (tableOf (hashOf (e .name))) t) (places-kept t (o + entrySize e) es)
   where
     either-kept : (b : Bool) → length (filter (image.inTable t) (placed (o + entrySize e) es)) ≡ length (filter (nameInTable t) es)
-        → length (cond b (record { entry = e; at = o } ∷ filter (image.inTable t) (placed (o + entrySize e) es)) (filter (image.inTable t) (placed (o + entrySize e) es)))
+        → length (cond b (record { entry = e; at = o } ∷ filter (image.inTable t) (placed (o + entrySize e) es))
+        (filter (image.inTable t) (placed (o + entrySize e) es)))
         ≡ length (cond b (e ∷ filter (nameInTable t) es) (filter (nameInTable t) es))
     either-kept true h = omega arith
     either-kept false h = h
@@ -61,7 +63,8 @@ puts-kept : (name : List ℕ) (es : List Entry) → tablePuts name es ≡ length
 unfolding tablePuts image.ofTable entriesOfTable
 puts-kept name es = places-kept (tableOf (hashOf name)) headSize es
 
-table-most : (img : List ℕ) (t : ℕ) (all es : List Entry) → All (Bounded img all) es → totalOf img (filter (nameInTable t) es) ≤ length (filter (nameInTable t) es) * length (entriesOfTable t all)
+table-most : (img : List ℕ) (t : ℕ) (all es : List Entry) → All (Bounded img all) es
+    → totalOf img (filter (nameInTable t) es) ≤ length (filter (nameInTable t) es) * length (entriesOfTable t all)
 unfolding totalOf filter
 table-most img t all [] b = omega arith
 table-most img t all (e ∷ es) b = either-bounded (eqb (tableOf (hashOf (e .name))) t) refl (table-most img t all es (b .1))
@@ -69,12 +72,15 @@ table-most img t all (e ∷ es) b = either-bounded (eqb (tableOf (hashOf (e .nam
     rest : List Entry
     rest = filter (nameInTable t) es
 
-    either-bounded : (q : Bool) → eqb (tableOf (hashOf (e .name))) t ≡ q → totalOf img (filter (nameInTable t) es) ≤ length (filter (nameInTable t) es) * length (entriesOfTable t all)
-        → totalOf img (cond q (e ∷ filter (nameInTable t) es) (filter (nameInTable t) es)) ≤ length (cond q (e ∷ filter (nameInTable t) es) (filter (nameInTable t) es)) * length (entriesOfTable t all)
+    either-bounded : (q : Bool) → eqb (tableOf (hashOf (e .name))) t ≡ q
+        → totalOf img (filter (nameInTable t) es) ≤ length (filter (nameInTable t) es) * length (entriesOfTable t all)
+        → totalOf img (cond q (e ∷ filter (nameInTable t) es) (filter (nameInTable t) es))
+        ≤ length (cond q (e ∷ filter (nameInTable t) es) (filter (nameInTable t) es)) * length (entriesOfTable t all)
     either-bounded true q h =
         let same : tableOf (hashOf (e .name)) ≡ t = eqb-true _ _ q in
         let puts : tablePuts (e .name) all ≡ length (entriesOfTable t all) = puts-kept (e .name) all ∙ ap (λ (k : ℕ). length (entriesOfTable k all)) same in
-        one (searchLength img e) (totalOf img (filter (nameInTable t) es)) (length (filter (nameInTable t) es)) (length (entriesOfTable t all)) (omega (arith, b .0 .1, puts)) h
+        one (searchLength img e) (totalOf img (filter (nameInTable t) es)) (length (filter (nameInTable t) es)) (length (entriesOfTable t all))
+        (omega (arith, b .0 .1, puts)) h
       where
         one : (a s l n : ℕ) → a ≤ n → s ≤ l * n → a + s ≤ suc l * n
         one a s l n p q = omega (arith, suc-mul l n)
@@ -115,7 +121,8 @@ given : (img : List ℕ) (m : AverageLength) → averaging img ≡ value m → (
 unfolding averaging isValue averageOr
 given img m e = by-refusal (eqb (averageRefusal img) 0) refl e
   where
-    by-refusal : (t : Bool) → eqb (averageRefusal img) 0 ≡ t → cond t (value (averageOf img)) (refusal (averageRefusal img)) ≡ value m → (averageOf img ≡ m) × (averageRefusal img ≡ 0)
+    by-refusal : (t : Bool) → eqb (averageRefusal img) 0 ≡ t → cond t (value (averageOf img)) (refusal (averageRefusal img)) ≡ value m
+        → (averageOf img ≡ m) × (averageRefusal img ≡ 0)
     by-refusal true t e = (ap (averageOr m) e, eqb-true _ _ t)
     by-refusal false t e = let z : _≡_ {A = ℕ} 0 1 = ap isValue e in absurd (omega arith)
 

@@ -75,7 +75,8 @@ back : (c : tie.After-back-for) → let e = first (entered (c .before)) in
 back c =
     let e = entered (c .before) in
     c .back-for .ensures
-    ∙ ap₂ (λ (t : Bool) (k : ℕ). backIn (cond t Twoway Oneway) k) (two (flagged (checked e))) (checked e .check-entries .ensures .back (not-false _ (e .if2 .left)))
+    ∙ ap₂ (λ (t : Bool) (k : ℕ). backIn (cond t Twoway Oneway) k) (two (flagged (checked e)))
+    (checked e .check-entries .ensures .back (not-false _ (e .if2 .left)))
 
 -- ---- the needs
 
@@ -91,7 +92,9 @@ check-entries-requires c κs =
     record {
       area = s .pre .area;
       links = omega (arith, s .pre .area .small, s .fits .n);
-      tables = λ t h. rows-held (image e) (s .pre .tables) (s .args .end) 0 256 (omega (arith, s .pre .area .from)) (omega arith) (rows e) t (omega arith) (omega (arith, h));
+      tables = λ t h.
+          rows-held (image e) (s .pre .tables) (s .args .end) 0 256 (omega (arith, s .pre .area .from)) (omega arith) (rows e) t (omega arith)
+          (omega (arith, h));
       zeros = zeros 256;
     }
 

@@ -81,7 +81,8 @@ returns-5 c =
     let same = b .before .before .before .if1 .left in
     decided (s .args .image .now) n (bytes f) (s .pre) (f .size-at .result - (16 * n + 4 * back)) back (sym (f .size-at .ensures .is) ∙ same)
     (omega (arith, b .before .before .get-u32 .ensures, b .before .if2 .left)) (b .size-at2 .ensures .is) (omega (arith, o .before .before .if3 .left))
-    (ap (λ (l : ℕ). l - (16 * n + 4 * back)) same) (sym (o .before .size-at3 .ensures .is) ∙ c .before .if4 .left ∙ o .offset-of .ensures) (c .check-body .result)
+    (ap (λ (l : ℕ). l - (16 * n + 4 * back)) same) (sym (o .before .size-at3 .ensures .is) ∙ c .before .if4 .left ∙ o .offset-of .ensures)
+    (c .check-body .result)
     (c .check-body .ensures)
 
 pub check-opened-spec : {M : Type 1} → statement M

@@ -3,26 +3,28 @@ use Prim.Native.Nat.{_<_}
 use native.Mathlib.Omega.{arith}
 use mathlib.Core.Path.{refl}
 use borrow.Author.Needs.{needs}
-use Rattle.search_length.proofs.Answers as answers
+use Rattle.search_length.proofs.Answers.{Asked, refused, some-entries, accepted, averaged}
 use Rattle.search_length.proofs.average.Statement.{statement}
 use Rattle.search_length.proofs.average.Tie as tie
 
+-- what was asked before the refusal is known
+abbrev start : tie.After-first-refusal → tie.Start
+start c = c .before .before .before .before
+
+asked : (c : tie.After-first-refusal)
+    → Asked (start c .args .image .now) (c .before .before .entries .result) (c .before .is-canonical .result) (c .first-refusal .result)
+asked c = record {
+  number = c .before .before .entries .ensures;
+  canonical-is = c .before .is-canonical .ensures;
+  first-is = c .first-refusal .ensures;
+}
+
 -- past the refusals there are entries
 some : (c : tie.Else1) → 0 < c .before .before .before .entries .result
-some c =
-    let r = c .before .first-refusal in
-    let valid = c .before .before .is-canonical in
-    let number = c .before .before .before .entries in
-    let a = c .before .before .before .before .before .args in
-    answers.some-entries (a .image .now) (number .result) (number .ensures) (valid .result) (r .result) (valid .ensures) (r .ensures) (c .if1 .left)
+some c = some-entries (asked (c .before)) (c .if1 .left)
 
 returns : tie.Need-returns
-returns c =
-    let r = c .before .first-refusal in
-    let valid = c .before .before .is-canonical in
-    let number = c .before .before .before .entries in
-    let a = c .before .before .before .before .before .args in
-    answers.refused (a .image .now) (number .result) (number .ensures) (valid .result) (r .result) (valid .ensures) (r .ensures) (c .if1 .taken)
+returns c = refused (asked (c .before)) (c .if1 .taken)
 
 div-t9 : tie.Need-div-t9
 div-t9 c = omega (arith, some (c .before .before))
@@ -31,27 +33,10 @@ rem-t10 : tie.Need-rem-t10
 rem-t10 c = omega (arith, some (c .before .before))
 
 count-lengths-requires : tie.Need-count-lengths-requires
-count-lengths-requires c κs =
-    let e = c .before in
-    let r = e .before .first-refusal in
-    let valid = e .before .before .is-canonical in
-    let number = e .before .before .before .entries in
-    let a = e .before .before .before .before .before .args in
-    record {
-      own = answers.accepted (a .image .now) (number .result) (number .ensures) (valid .result) (r .result) (valid .ensures) (r .ensures) (e .if1 .left);
-      zeros = refl;
-    }
+count-lengths-requires c κs = let e = c .before in record { own = accepted (asked (e .before)) (e .if1 .left); zeros = refl }
 
 returns-2 : tie.Need-returns-2
-returns-2 c =
-    let e = c .before .before in
-    let r = e .before .first-refusal in
-    let valid = e .before .before .is-canonical in
-    let number = e .before .before .before .entries in
-    let a = e .before .before .before .before .before .args in
-    let sum = c .count-lengths in
-    answers.averaged (a .image .now) (number .result) (number .ensures) (valid .result) (r .result) (valid .ensures) (r .ensures) _ (sum .result) (e .if1 .left)
-    (sum .ensures)
+returns-2 c = let e = c .before .before in averaged (asked (e .before)) (e .if1 .left) (c .count-lengths .ensures)
 
 pub average-spec : {M : Type 1} → statement M
 average-spec =

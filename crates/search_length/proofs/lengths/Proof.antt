@@ -1,40 +1,32 @@
 -- `search_length::lengths` meets its contract. Assumes nothing.
-use Rattle.search_length.proofs.Answers as answers
+use Rattle.search_length.proofs.Answers.{Asked, refused-lengths, accepted, filled-lengths}
 use mathlib.Core.Path.{refl}
 use borrow.Author.Needs.{needs}
 use Rattle.search_length.proofs.lengths.Statement.{statement}
 use Rattle.search_length.proofs.lengths.Tie as tie
 
+-- what was asked before the refusal is known
+abbrev start : tie.After-first-refusal → tie.Start
+start c = c .before .before .before .before
+
+asked : (c : tie.After-first-refusal)
+    → Asked (start c .args .image .now) (c .before .before .entries .result) (c .before .is-canonical .result) (c .first-refusal .result)
+asked c = record {
+  number = c .before .before .entries .ensures;
+  canonical-is = c .before .is-canonical .ensures;
+  first-is = c .first-refusal .ensures;
+}
+
 returns : tie.Need-returns
-returns c =
-    let r = c .before .first-refusal in
-    let valid = c .before .before .is-canonical in
-    let number = c .before .before .before .entries in
-    let a = c .before .before .before .before .before .args in
-    answers.refused-lengths (a .image .now) (number .result) (number .ensures) (valid .result) (r .result) (valid .ensures) (r .ensures) (a .counts .now) (c .if1 .taken)
+returns c = refused-lengths (asked (c .before)) (start (c .before) .args .counts .now) (c .if1 .taken)
 
 count-lengths-requires : tie.Need-count-lengths-requires
-count-lengths-requires c κs =
-    let e = c .before .before in
-    let r = e .before .first-refusal in
-    let valid = e .before .before .is-canonical in
-    let number = e .before .before .before .entries in
-    let a = e .before .before .before .before .before .args in
-    record {
-      own = answers.accepted (a .image .now) (number .result) (number .ensures) (valid .result) (r .result) (valid .ensures) (r .ensures) (e .if1 .left);
-      zeros = refl;
-    }
+count-lengths-requires c κs = let e = c .before .before in record { own = accepted (asked (e .before)) (e .if1 .left); zeros = refl }
 
 returns-2 : tie.Need-returns-2
 returns-2 c =
     let e = c .before .before .before in
-    let r = e .before .first-refusal in
-    let valid = e .before .before .is-canonical in
-    let number = e .before .before .before .entries in
-    let a = e .before .before .before .before .before .args in
-    let sum = c .count-lengths in
-    answers.filled-lengths (a .image .now) (number .result) (number .ensures) (valid .result) (r .result) (valid .ensures) (r .ensures) (a .counts .now) _
-    (sum .result) (e .if1 .left) (sum .ensures)
+    filled-lengths (asked (e .before)) (start (e .before) .args .counts .now) (e .if1 .left) (c .count-lengths .ensures)
 
 pub lengths-spec : {M : Type 1} → statement M
 lengths-spec =

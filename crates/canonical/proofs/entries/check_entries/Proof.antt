@@ -10,12 +10,14 @@ use Rattle.jhash.proofs.Outcomes.{hash-or-zero-short}
 use Rattle.image.specs.Tables.{tableOf}
 use Rattle.image.proofs.Between.{EntryRoom}
 use Rattle.canonical.specs.steps.Checks.{entryName}
-use Rattle.canonical.proofs.EntryLoop.{Entering, EntryRead, entering-start, entering-broken, entering-inside, entering-wrong, entering-next, entering-end}
+use Rattle.canonical.proofs.EntryLoop.{Entering, EntryRead, entering-start, entering-broken, entering-inside, entering-wrong, entering-next}
+use Rattle.canonical.proofs.EntryLoop.{entering-end}
 use Rattle.canonical.proofs.entries.check_entries.Statement.{statement}
 use Rattle.canonical.proofs.entries.check_entries.Tie as tie
 
 abbrev Inv-loop : tie.InvT-loop
-Inv-loop image end entries two o counts₀ at₀ left₀ back₀ linked₀ counts at left back linked = Entering image end entries two o counts₀ at left back linked counts
+Inv-loop image end entries two o counts₀ at₀ left₀ back₀ linked₀ counts at left back linked =
+    Entering image end entries two o counts₀ at left back linked counts
 
 abbrev μ-loop : tie.MeasureT-loop
 μ-loop image end entries two o counts₀ at₀ left₀ back₀ linked₀ counts at left back linked = left
@@ -120,7 +122,8 @@ loop-again c =
     let t = in-loop e in
     let raised = c .before .before .raise in
     rw (c .before .larger .ensures)
-    (entering-next (t .before .loop .inv) (start (t .before) .pre .area .inside) (t .loop-test .taken) (read k) (not-false _ (c .before .before .before .before .if2 .left))
+    (entering-next (t .before .loop .inv) (start (t .before) .pre .area .inside) (t .loop-test .taken) (read k)
+    (not-false _ (c .before .before .before .before .if2 .left))
     (c .one-if-equal .result) (raised .last .0) (e .before .whole-length .ensures .small) (k .before .before .before .size-at .ensures .small)
     (c .one-if-equal .ensures) (raised .ensures))
 

@@ -18,7 +18,8 @@ returns-2 c =
     let name = c .before .before .before .name-at in
     let zero = c .before .before .has-zero in
     let found = c .in-its-bucket in
-    name-bucket (a .image .now) (a .at) (a .n) (name .result .now) (zero .result) (name .ensures .is) (zero .ensures) (a .h) (found .result) (c .before .if1 .left)
+    name-bucket (a .image .now) (a .at) (a .n) (name .result .now) (zero .result) (name .ensures .is) (zero .ensures) (a .h) (found .result)
+    (c .before .if1 .left)
     (s .pre .hash) (found .ensures)
 
 pub check-entry-spec : {M : Type 1} → statement M

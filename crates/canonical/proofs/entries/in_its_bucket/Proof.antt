@@ -21,7 +21,8 @@ returns c =
 room : (c : tie.Else1) → c .before .before .table-at .result + 8 * c .before .bucket-number .result ≤ length (begun c .args .image .now)
 room c =
     let s = begun c in
-    table-room (s .args .image .now) (s .args .h) (s .args .at) (s .pre) (c .before .before .table-at .ensures .is) (c .before .bucket-number .ensures .is) (c .if1 .left)
+    table-room (s .args .image .now) (s .args .h) (s .args .at) (s .pre) (c .before .before .table-at .ensures .is) (c .before .bucket-number .ensures .is)
+    (c .if1 .left)
 
 abbrev some : tie.After-first-empty-before → tie.Else1
 some c = c .before .before

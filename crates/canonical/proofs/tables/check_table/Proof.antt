@@ -32,7 +32,8 @@ next : (c : tie.After-used-bit Inv-loop μ-loop)
     Buckets (a .image .now) (a .o) (2 * a .c) (l .k + 1) (l .clean && c .before .before .clean-bucket .result) (l .used + c .used-bit .result)
 next c =
     let bucket = c .before .before .clean-bucket in
-    buckets-next (c .before .before .before .before .loop .inv .buckets) (c .before .before .before .loop-test .taken) (bucket .result) (c .used-bit .result) (bucket .ensures)
+    buckets-next (c .before .before .before .before .loop .inv .buckets) (c .before .before .before .loop-test .taken) (bucket .result)
+    (c .used-bit .result) (bucket .ensures)
     (c .used-bit .ensures ∙ ap (bit 1) (c .before .word .ensures))
 
 add-used : tie.Need-add-used Inv-loop μ-loop

@@ -82,7 +82,8 @@ loop-again c =
     let len = b .before .before .before .size-at .ensures .is in
     ahead-next (this l) len
     (counting-next (this l .holds) (l .loop-test .taken) (b .buckets .result) _ (omega (arith, b .buckets .ok))
-    (b .buckets .ensures ∙ ap reads (b .before .to-id .ensures ∙ ap (lookup (start l .args .image .now)) (name-is (this l) len (b .before .before .name-at .ensures))))
+    (b .buckets .ensures
+    ∙ ap reads (b .before .to-id .ensures ∙ ap (lookup (start l .args .image .now)) (name-is (this l) len (b .before .before .name-at .ensures))))
     (c .raise-at .ensures ∙ ap (λ (k : ℕ). oneMore (l .before .loop .counts) k) (c .before .before .bin-of .ensures .is)))
 
 returns : tie.Need-returns Inv-loop μ-loop
