@@ -6,7 +6,7 @@ ghost use Rattle.jhash.specs.Outcome.{value};
 ghost use Rattle.image.specs.Image.{backIn};
 ghost use Rattle.image.specs.declared.Mode.the-variants.{Twoway, Oneway};
 ghost use Rattle.reader.specs.Open.{opening};
-ghost use Rattle.canonical.specs.Canonical.{canonical};
+ghost use Rattle.canonical.specs.Canonical.{counted, canonical};
 ghost use Rattle.canonical.specs.steps.Checks.{bodyOk};
 ghost use Rattle.canonical.specs.steps.Contracts.{CheckBodyPre};
 use entries::check_entries;
@@ -81,6 +81,16 @@ fn check_opened(image: &[u8], n: u32) -> bool
         return false;
     }
     check_body(image, n, end, back)
+}
+
+// How many entries opening counts, 0 if it refuses.
+pub fn entry_count(image: &[u8]) -> u32
+    ensures { λ r. ⌜ r ≡ counted (opening (now (image .entry))) ⌝ }
+{
+    match reader::open(image) {
+        Opened::Num(n) => n,
+        Opened::Refused(k) => 0,
+    }
 }
 
 // Are these bytes the image that some list of puts, one-way or two-way, of names without a zero byte, closes to?

@@ -7,13 +7,14 @@ ghost use Rattle.reader.specs.Lookup.{lookup};
 ghost use Rattle.lookup_laws.specs.Answer.{foundId, nameGiven};
 ghost use Rattle.canonical.specs.steps.Contracts.{CanonicalImage};
 ghost use Rattle.one_to_one.specs.OneToOne.{isId, isName, asked, firstFailureIn, oneToOne, oneToOneOf};
+use canonical::entry_count;
+use canonical::is_canonical;
 use image::HEAD_SIZE;
 use image::entries::name_at;
 use image::equality::same;
 use image::get_u32;
 use image::size_at;
 use reader::Named;
-use reader::Opened;
 use reader::ToId;
 
 // Yes; or the offset of the first entry that fails, whose name finds another id or whose id gives another name; or the
@@ -79,11 +80,8 @@ fn first_failure(image: &[u8], n: u32) -> OneToOne
 pub fn one_to_one(image: &[u8]) -> OneToOne
     ensures { λ r. ⌜ oneToOneOf r ≡ oneToOne (now (image .entry)) ⌝ }
 {
-    if !canonical::is_canonical(image) {
+    if !is_canonical(image) {
         return OneToOne::Refused(17);
     }
-    match reader::open(image) {
-        Opened::Num(n) => first_failure(image, n),
-        Opened::Refused(k) => OneToOne::Refused(17),
-    }
+    first_failure(image, entry_count(image))
 }

@@ -1,10 +1,9 @@
 // The average search length (02 (x)): how many buckets are read when the name of each entry of an image is looked up,
 // divided by the number of entries. Also how many entries have each length.
 ghost use mathlib.Core.Path.{_≡_};
-ghost use Rattle.reader.specs.Open.{opening};
-ghost use Rattle.canonical.specs.Canonical.{counted};
 ghost use Rattle.search_length.specs.Average.{firstRefusal, averaging, averagedOf, Lengths};
-use reader::Opened;
+use canonical::entry_count;
+use canonical::is_canonical;
 use walks::count_lengths;
 
 mod walks; // walks.rt: the search lengths of the entries
@@ -20,16 +19,6 @@ pub struct AverageLength {
 pub enum Averaged {
     Average(AverageLength),
     Refused(u32),
-}
-
-// How many entries opening counts, 0 if it refuses.
-fn entries(image: &[u8]) -> u32
-    ensures { λ r. ⌜ r ≡ counted (opening (now (image .entry))) ⌝ }
-{
-    match reader::open(image) {
-        Opened::Num(n) => n,
-        Opened::Refused(k) => 0,
-    }
 }
 
 // The refusal of an image of n entries, 0 for none.
@@ -49,8 +38,8 @@ fn first_refusal(valid: bool, n: u32) -> u32
 pub fn average(image: &[u8]) -> Averaged
     ensures { λ r. ⌜ averagedOf r ≡ averaging (now (image .entry)) ⌝ }
 {
-    let n = entries(image);
-    let refusal = first_refusal(canonical::is_canonical(image), n);
+    let n = entry_count(image);
+    let refusal = first_refusal(is_canonical(image), n);
     if refusal != 0 {
         return Averaged::Refused(refusal);
     }
@@ -69,8 +58,8 @@ pub fn average(image: &[u8]) -> Averaged
 pub fn lengths(image: &[u8], counts: &mut [u32; 16]) -> u32
     ensures { λ r. ⌜ Lengths (now (image .entry)) (now (counts .entry)) (now (counts .exit)) r ⌝ }
 {
-    let n = entries(image);
-    let refusal = first_refusal(canonical::is_canonical(image), n);
+    let n = entry_count(image);
+    let refusal = first_refusal(is_canonical(image), n);
     if refusal != 0 {
         return refusal;
     }

@@ -12,15 +12,15 @@ abbrev start : tie.After-first-refusal → tie.Start
 start c = c .before .before .before .before
 
 asked : (c : tie.After-first-refusal)
-    → Asked (start c .args .image .now) (c .before .before .entries .result) (c .before .is-canonical .result) (c .first-refusal .result)
+    → Asked (start c .args .image .now) (c .before .before .entry-count .result) (c .before .is-canonical .result) (c .first-refusal .result)
 asked c = record {
-  number = c .before .before .entries .ensures;
+  number = c .before .before .entry-count .ensures;
   canonical-is = c .before .is-canonical .ensures;
   first-is = c .first-refusal .ensures;
 }
 
 -- past the refusals there are entries
-some : (c : tie.Else1) → 0 < c .before .before .before .entries .result
+some : (c : tie.Else1) → 0 < c .before .before .before .entry-count .result
 some c = some-entries (asked (c .before)) (c .if1 .left)
 
 returns : tie.Need-returns

@@ -10,9 +10,9 @@ abbrev start : tie.After-first-refusal → tie.Start
 start c = c .before .before .before .before
 
 asked : (c : tie.After-first-refusal)
-    → Asked (start c .args .image .now) (c .before .before .entries .result) (c .before .is-canonical .result) (c .first-refusal .result)
+    → Asked (start c .args .image .now) (c .before .before .entry-count .result) (c .before .is-canonical .result) (c .first-refusal .result)
 asked c = record {
-  number = c .before .before .entries .ensures;
+  number = c .before .before .entry-count .ensures;
   canonical-is = c .before .is-canonical .ensures;
   first-is = c .first-refusal .ensures;
 }
