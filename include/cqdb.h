@@ -140,8 +140,8 @@ extern "C" {
 #define CQDB_TOO_FEW_BYTES 19u   /* sheet_read: the file ends before its third section does */
 #define CQDB_LEFT_OVER_BYTES 20u /* sheet_read: bytes follow the third section */
 #define CQDB_SHEET_TOO_LARGE 21u /* sheet_write: a list has more than 65,535 ids, or the buffer is too short */
-#define CQDB_NO_SUCH_DATE 22u    /* name_on: a date, the one asked about or a window's, does not exist or is out of bounds */
-#define CQDB_NOT_BEFORE_END 23u  /* name_on: a window does not start before its end */
+#define CQDB_NO_SUCH_DATE 22u    /* name_on, preflight_dates: a date, one asked about or a window's, does not exist or is out of bounds */
+#define CQDB_NOT_BEFORE_END 23u  /* name_on, preflight_dates: a window does not start before its end */
 #define CQDB_INDEX_FULL 24u      /* put_indexed, index: every slot is taken, or there are more entries than slots */
 
 /* What a refusal's number means, in the words of the Rust crate and of the Python module. */
