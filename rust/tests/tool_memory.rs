@@ -49,6 +49,8 @@ fn without_memory() {
         ("head -c 300000000 /dev/zero | tr '\\0' x | \"$CQDB\" id image", "line 1 of standard input"),
         ("printf '+300000000,1:x' | \"$CQDB\" make --cdb image", "record 1 of standard input"),
         ("head -c 300000000 /dev/zero | \"$CQDB\" list -", "standard input"),
+        ("head -c 300000000 /dev/zero | \"$CQDB\" preflight --first --sheet image --round image -", "standard input"),
+        ("yes '7 1.25' | head -n 90000000 | \"$CQDB\" report --first --sheet image image", "standard input"),
         ("yes 'wall 7' | head -n 90000000 | \"$CQDB\" sheet make round", "standard input"),
     ] {
         let ran = limited(line).gives(2);
