@@ -510,22 +510,24 @@ cqdb_build_answer cqdb_build_parts(uint32_t mode, uint32_t repeats, uint8_t *buf
                                    const uint32_t *ids, size_t ids_len, uint32_t *refusals, size_t places,
                                    uint32_t *work, size_t words);
 
-/* Begins a writer in the buffer, puts each of n names with the id at its place, in order, and closes: the buffer, the size and
-   the number of each put's refusal, in refusals[0] to refusals[n - 1], are those of the single calls. The names lie joined from
-   names on; name i ends before byte ends[i], and begins where the one before ends, the first at 0. Refusals of the whole list,
-   the first that applies: 2 for a mode or a choice of repeats that is neither 0 nor 1; 14 when an end is below the one before or
-   above names_len; 15 when there are fewer than n places; 1 for a buffer under 2,072 bytes. Then nothing is written.
+/* Begins a writer in the buffer, puts each of n names with the id at its place, in order, and closes: the image, the size and
+   the number of each put's refusal, in refusals[0] to refusals[n - 1], are those of the single calls. The image is the first
+   `size` bytes of the buffer. Bytes from the size on that cqdb_build_needs gives for these names and ids keep their content; those
+   between the two sizes are unspecified. The names lie joined from names on; name i ends before byte ends[i], and begins where
+   the one before ends, the first at 0. Refusals of the whole list, the first that applies: 2 for a mode or a choice of repeats
+   that is neither 0 nor 1; 14 when an end is below the one before or above names_len; 15 when there are fewer than n places; 1
+   for a buffer under 2,072 bytes. Then nothing is written.
 
    The words at work are scratch memory, lent for speed: how many there are, and what they hold, changes no answer, and what they
-   hold afterwards is unspecified. What a list of n names costs, by the words and by the list:
-   - 6n words, and room in the buffer for all names: linear. All tables are made first, then the image is written in one pass. Where
-     a name is refused, the names are put one by one instead. That is linear, too. Up to 100,000 names it takes at most twice as long
-     as a list whose names are all accepted: on an AMD EPYC, at 4,096, 100,000 and 1,000,000 names, up to 1.8, 1.9 and 2.8 times with
-     a repeated name, 1.8, 1.9 and 3.5 times with a zero byte in a name, and 1.5, 1.3 and 1.1 times with repeats on.
-   - 4n words: linear. Each put looks into an index of the names. There is an index from 2n words on, but the fuller it gets the
-     more slots a put reads: with 2n words 100,000 names took 7 times as long as with 4n.
-   - Fewer than 2n words: with repeats on linear, since no put looks for its name; with repeats off quadratic, since each put walks
-     the entries before it: 16,000 names took 0.6 s.
+   hold afterwards is unspecified. What a list of n names costs, by the list and by the words:
+   - No name is refused, or repeats are on and none has a zero byte, and the buffer has room for all names: linear, and no word is
+     needed up to 4,608 names of one table, some 1,150,000 in all. The image is written straight into the buffer. With more names
+     some words are needed, two for each name of the largest table, or else the tables are filled name by name: 1,500,000 names
+     then take three times as long.
+   - A name is refused: the names are put one by one from the beginning. With 5n words that is linear, and takes up to three times as
+     long as the list without it. Each put looks into an index of the names. There is an index from 2n words on, but the fuller it
+     gets the more slots a put reads: with 2n words 100,000 names took 7 times as long as with 4n. With fewer it is quadratic where
+     repeats are off, since each put walks the entries before it: 16,000 names took 0.6 s.
    - With repeats on and whatever is lent, a name that is put k times costs k * k / 2 reads of buckets, as in cqdb_close: equal names
      have one probe sequence in their table of the image. 64,000 puts of one name took 1.8 s. */
 static inline cqdb_build_answer cqdb_build(uint32_t mode, uint32_t repeats, uint8_t *buf, size_t len,
@@ -541,7 +543,7 @@ typedef struct {
 } cqdb_build_needs_answer;
 
 /* In a buffer of so many bytes no put of the list is refused with 3, with either choice of repeats, unless they exceed
-   4,294,967,295; with so many words it goes the fast way, in linear time. names_len is the length of the joined names, and n the
+   4,294,967,295; with so many words it takes linear time, also where a name is refused. names_len is the length of the joined names, and n the
    number of ids. Without a refused put and without a byte behind the last name, bytes is the image's size. A mode other than 0
    is taken as one-way, and what exceeds 2^64 - 1 is given as that. Changes nothing, and reads each id once. */
 cqdb_build_needs_answer cqdb_build_needs(uint32_t mode, size_t names_len, const uint32_t *ids, size_t n);

@@ -1,7 +1,8 @@
 // A whole list in one call, through the archive, beside single calls: begin, each put in order and one close. Every answer, every
-// byte of the buffer and every place of the answers is compared, with little, enough and much lent memory that holds random words
-// before. Names meet in tables, buckets and whole hashes, repeat at every distance and have zero bytes; buffers are exact, a byte
-// short and longer; lists are refused for their ends, ids, places and buffers.
+// byte of the image and every place of the answers is compared, and every byte from the size of an image of all names on, with no,
+// little, enough and much lent memory that holds random words before. Names meet in tables, buckets and whole hashes, repeat at every
+// distance and have zero bytes; lists have every size up to 5,000; buffers are exact, a byte short and longer; lists are refused for
+// their ends, ids, places and buffers.
 // build [LISTS]
 mod original {
     pub type Put = (Vec<u8>, u32);
@@ -20,6 +21,7 @@ use seed::Random;
 use tally::Tally;
 
 const LISTS: usize = 50_000;
+const SIZES: usize = 5_000;
 const LARGE: usize = 1_000_000;
 
 // A list as the call is lent it.
@@ -81,6 +83,14 @@ fn whole(mode: u32, puts: &[Put]) -> usize {
     HEAD + names + if mode == 0 { back } else { 0 }
 }
 
+// Are these the bytes that the call promises: the image, and from the size of an image of all names on what stood there? Those between
+// are unspecified.
+fn promised(given: &Left, wanted: &Left, all: usize) -> bool {
+    let size = wanted.answer.size as usize;
+    let behind = all.clamp(size, wanted.buf.len());
+    given.buf.len() == wanted.buf.len() && given.buf[..size] == wanted.buf[..size] && given.buf[behind..] == wanted.buf[behind..]
+}
+
 fn words(random: &mut Random, n: usize) -> Vec<u32> {
     (0..n).map(|_| if random.once_in(2) { random.word() } else { random.below(2 * n + 2) as u32 }).collect()
 }
@@ -123,7 +133,7 @@ fn accepted_list(random: &mut Random, names: &Names, tally: &mut Tally) -> usize
     let places = random.below(3);
     let answers = words(random, puts.len() + places);
     let n = puts.len();
-    // no index, one of a slot a name, one of two, the tables; and a word less or more
+    // no index, one of a slot a name, one of two, and of five words; and a word less or more
     let much = random.pick(&[
         0,
         1,
@@ -134,10 +144,10 @@ fn accepted_list(random: &mut Random, names: &Names, tally: &mut Tally) -> usize
         3 * n,
         (4 * n).saturating_sub(1),
         4 * n,
-        (6 * n).saturating_sub(1),
-        6 * n,
-        6 * n,
-        6 * n + 7,
+        (5 * n).saturating_sub(1),
+        5 * n,
+        5 * n,
+        5 * n + 7,
     ]);
     let mut work = words(random, much);
     let list = List::new(&puts);
@@ -151,8 +161,37 @@ fn accepted_list(random: &mut Random, names: &Names, tally: &mut Tally) -> usize
     let wanted = single(mode, repeats, buf, &puts, answers);
     tally.rule(given.answer, wanted.answer, || format!("answer, mode {mode}, repeats {repeats}, {much} words, {puts:?}"));
     tally.rule(&given.answers, &wanted.answers, || format!("answers, mode {mode}, repeats {repeats}, {much} words, {puts:?}"));
-    tally.rule(given.buf == wanted.buf, true, || format!("buffer, mode {mode}, repeats {repeats}, {much} words, {puts:?}"));
+    let kept = promised(&given, &wanted, whole(mode, &puts));
+    tally.rule(kept, true, || format!("buffer, mode {mode}, repeats {repeats}, {much} words, {puts:?}"));
     n
+}
+
+// A list of n names, clean, or with a name that comes again or one with a zero byte; in a buffer of the image's size, longer, or too
+// short for the last name; with memory for an index, and with none.
+fn sized_list(random: &mut Random, n: usize, tally: &mut Tally) {
+    let mut puts: Vec<Put> = (0..n).map(|i| (format!("P{:08X}", random.word() ^ i as u32).into_bytes(), i as u32)).collect();
+    // single puts with repeats off walk all earlier entries
+    let spoilt = n <= 400 && n > 1 && random.once_in(2);
+    if spoilt {
+        let at = 1 + random.below(n - 1);
+        if random.once_in(2) {
+            puts[at].0 = puts[random.below(at)].0.clone();
+        } else {
+            puts[at].0[3] = 0;
+        }
+    }
+    let (mode, repeats) = (random.below(2) as u32, if spoilt { 0 } else { 1 });
+    let all = whole(mode, &puts);
+    let room = if n <= 400 { random.pick(&[all, all + 9, all - 1]) } else { random.pick(&[all, all + 9]) };
+    let list = List::new(&puts);
+    let buf = vec![9; room];
+    let wanted = single(mode, repeats, buf.clone(), &puts, vec![7; n]);
+    for much in [0, 5 * n] {
+        let given = built(mode, 0, buf.clone(), list.joined(), vec![7; n], &mut vec![u32::MAX; much]);
+        tally.rule(given.answer, wanted.answer, || format!("{n} names, mode {mode}, {much} words"));
+        tally.rule(given.answers == wanted.answers, true, || format!("the answers of {n} names, mode {mode}, {much} words"));
+        tally.rule(promised(&given, &wanted, all), true, || format!("the image of {n} names, mode {mode}, {much} words"));
+    }
 }
 
 // A list that is refused: the first refusal of 2, 14, 15 and 1, and nothing is written.
@@ -193,7 +232,7 @@ fn refused_list(random: &mut Random, names: &Names, tally: &mut Tally) {
         }
         due = 2;
     }
-    let (buf, answers, work) = (random.bytes(len), words(random, places), words(random, 6 * n));
+    let (buf, answers, work) = (random.bytes(len), words(random, places), words(random, 5 * n));
     let mut after = work.clone();
     let given = built(mode, repeats, buf.clone(), list.joined(), answers.clone(), &mut after);
     let answer = BuildAnswer { refusal: due, size: 0, accepted: 0 };
@@ -224,7 +263,7 @@ fn large(random: &mut Random, tally: &mut Tally) {
         let wanted = single(0, 1, buf, &fresh, vec![0; fresh.len()]);
         tally.rule(given.answer, wanted.answer, || "a million names".into());
         tally.rule(given.answers == due, true, || "the answers of a million names".into());
-        tally.rule(given.buf == wanted.buf, true, || "the image of a million names".into());
+        tally.rule(promised(&given, &wanted, whole(0, &puts)), true, || "the image of a million names".into());
     }
 }
 
@@ -241,7 +280,14 @@ fn main() {
             refused_list(&mut random, &names, &mut tally);
         }
     }
+    for n in 1..=SIZES.min(lists) {
+        sized_list(&mut random, n, &mut tally);
+    }
     large(&mut random, &mut tally);
-    println!("build: {lists} lists with {put} puts beside single calls, {} refused lists, and a million names", lists.div_ceil(10));
+    println!(
+        "build: {lists} lists with {put} puts beside single calls, {} refused lists, lists of 1 to {} names, and a million names",
+        lists.div_ceil(10),
+        SIZES.min(lists)
+    );
     tally.end("build");
 }

@@ -41,7 +41,7 @@ use Rattle.build.specs.Build.{callsOf, listed}
 use Rattle.build.specs.Needs.{atMost, idsBack, bytesNeeded}
 use Rattle.build.specs.steps.Capacity.{bytesForAll, RoomForAll}
 use Rattle.build.specs.steps.Steps.{entriesListed}
-use Rattle.bulk_tables.proofs.Offsets.{size-all as size-entries}
+use Rattle.build.proofs.Offsets.{size-all as size-entries}
 use Rattle.lists.proofs.Capacity.{back-rises}
 use Rattle.build.proofs.Listed.{length-listed, names-listed, back-listed, back-words}
 use Rattle.writer.proofs.Closes.{accepted as closable}
@@ -100,12 +100,12 @@ unfolding backSize
 back-front [] more = omega arith
 back-front (e ∷ es) more = omega (arith, back-front es more)
 
-size-front : (mode : Mode) (es more : List Entry) → imageSize mode es ≤ imageSize mode (es ++ more)
+pub size-front : (mode : Mode) (es more : List Entry) → imageSize mode es ≤ imageSize mode (es ++ more)
 size-front mode es more =
     omega (arith, entriesSize-append es more, length-append es more, back-rises mode (backSize es) (backSize (es ++ more)) (back-front es more))
 
 -- ids that are words
-word-id : (mode : Mode) (x : List ℕ) (id : ℕ) → id < 2 ^ 32 → WordId mode (put (entryOf x id))
+pub word-id : (mode : Mode) (x : List ℕ) (id : ℕ) → id < 2 ^ 32 → WordId mode (put (entryOf x id))
 word-id Twoway x id h = tt
 word-id Oneway x id h = h
 
@@ -114,17 +114,6 @@ unfolding callsOf
 word-ids mode [] ids h = tt
 word-ids mode (x ∷ xs) [] h = tt
 word-ids mode (x ∷ xs) (id ∷ ids) h = (word-id mode x id (h 0 (omega arith)), word-ids mode xs ids (λ i k. h (suc i) (omega arith)))
-
--- a put keeps every byte behind its entry
-put-keeps-from : (s : State) (e : Entry) (k : ℕ) → s .writer .end + entrySize e ≤ k → drop k (afterPut s e .buffer) ≡ drop k (s .buffer)
-put-keeps-from s e k h =
-    let m : ℕ = s .writer .end + entrySize e in
-    let is : m + (k - m) ≡ k = omega arith in
-    ap (λ (j : ℕ). drop j (afterPut s e .buffer)) (sym is)
-    ∙ sym (drop-drop (k - m) m (afterPut s e .buffer))
-    ∙ ap (drop (k - m)) (put-keeps-behind s e)
-    ∙ drop-drop (k - m) m (s .buffer)
-    ∙ ap (λ (j : ℕ). drop j (s .buffer)) is
 
 -- after the puts es each of the names xs can be put: none has a zero byte or, with repeats off, stands before, and all have room
 record Free (mode : Mode) (repeats : Repeats) (n : ℕ) (es : List Entry) (xs : List (List ℕ)) (ids : List ℕ) : Type 0 where
@@ -209,23 +198,6 @@ module _ (mode : Mode) (repeats : Repeats) (n : ℕ) where
       ∙ all-accepted (es ++ (entryOf x id ∷ [])) xs ids (free-next es x xs id ids f)
       ∙ append-assoc es (entryOf x id ∷ []) (entriesListed xs ids)
 
-  -- such puts keep every byte from the end of their entries on
-  puts-keep : (es : List Entry) (s : State) (xs : List (List ℕ)) (ids : List ℕ) → Written mode repeats n es s → Free mode repeats n es xs ids
-      → (k : ℕ) → entriesEnd (es ++ entriesListed xs ids) ≤ k → drop k (after s (callsOf xs ids) .buffer) ≡ drop k (s .buffer)
-  unfolding after callsOf puts
-  puts-keep es s [] ids w f k h = refl
-  puts-keep es s (x ∷ xs) [] w f k h = absurd (omega (arith, f .many))
-  puts-keep es s (x ∷ xs) (id ∷ ids) w f k h =
-      let e = entryOf x id in
-      let next = es ++ (e ∷ []) in
-      let all = ap entriesSize (all-same es x xs id ids f) in
-      let then : Written mode repeats n next (afterPut s e) =
-      subst (λ (l : List Entry). Written mode repeats n l (afterPut s e)) (free-accepted es x xs id ids f)
-      (put-written mode repeats n es s w e (word-id mode x id (f .words 0 (omega arith)))) in
-      puts-keep next (afterPut s e) xs ids then (free-next es x xs id ids f) k (omega (arith, all, h))
-      ∙ put-keeps-from s e k
-      (omega (arith, all, h, w .end, entriesSize-snoc es e, entriesSize-append next (entriesListed xs ids)))
-
 -- ---- the list
 
 module _ (mode : Mode) (repeats : Repeats) (buffer bytes ends ids : List ℕ) (good : invalidEnds (length bytes) 0 ends ≡ false) (many : length ends ≤ length ids)
@@ -266,6 +238,9 @@ module _ (mode : Mode) (repeats : Repeats) (buffer bytes ends ids : List ℕ) (g
   accepted-is = all-accepted mode repeats n [] xs ids free-all
 
   -- every put is accepted, and answered by none
+  pub all-accepted-are : accepted mode repeats (length buffer) (listed bytes ends ids) ≡ entriesListed (names bytes ends) ids
+  all-accepted-are = accepted-is
+
   pub accepted-all : acceptedPuts mode repeats buffer (listed bytes ends ids) ≡ entriesListed (names bytes ends) ids
   accepted-all = list-accepted mode repeats buffer room cs word ∙ accepted-is
 
@@ -276,64 +251,10 @@ module _ (mode : Mode) (repeats : Repeats) (buffer bytes ends ids : List ℕ) (g
       ∙ none-due mode repeats n [] xs ids free-all
       ∙ ap (λ (k : ℕ). replicate k 0) (length-names bytes ends)
 
-  -- the list leaves these entries, and keeps the bytes behind them
+  -- the list leaves these entries
   left-all : Written mode repeats n es (afterList mode repeats buffer cs)
   left-all = subst (λ (l : List Entry). Written mode repeats n l (afterList mode repeats buffer cs)) accepted-is (list-written mode repeats buffer room cs word)
 
-  behind-all : drop (imageSize mode es) (afterList mode repeats buffer cs .buffer) ≡ drop (imageSize mode es) buffer
-  unfolding fresh
-  behind-all = puts-keep mode repeats n [] (fresh mode repeats buffer) xs ids (fresh-written mode repeats buffer room) free-all (imageSize mode es) (omega arith)
-
-  -- one close gives the size of their image, and leaves it
+  -- one close gives the size of their image
   pub size-all : closedSize (afterList mode repeats buffer (listed bytes ends ids)) ≡ imageSize mode (entriesListed (names bytes ends) ids)
   size-all = written-size mode repeats n es (afterList mode repeats buffer cs) left-all
-
-  pub closed-all : afterClose (afterList mode repeats buffer (listed bytes ends ids)) .buffer
-      ≡ image mode (entriesListed (names bytes ends) ids) ++ drop (imageSize mode (entriesListed (names bytes ends) ids)) buffer
-  closed-all =
-      let s = afterList mode repeats buffer cs in
-      ap (λ (t : State). t .buffer) (close-closed mode repeats n es s left-all)
-      ∙ closed-buffer mode repeats n es s left-all
-      ∙ ap (λ (l : List ℕ). image mode es ++ l) behind-all
-
--- ---- their entries in a buffer
-
--- where the entries of all names stand, finishing finds what it asks for, and these entries
-module _ (mode : Mode) (buffer bytes ends ids : List ℕ) (good : invalidEnds (length bytes) 0 ends ≡ false) (many : length ends ≤ length ids)
-    (fits : RoomForAll mode ends ids (length buffer)) (words : (i : ℕ) → i < length ends → getD ids i 0 < 2 ^ 32) where
-  abbrev all : List Entry
-  all = entriesListed (names bytes ends) ids
-
-  abbrev writer : CQDBWriter
-  writer = record { mode = mode; repeats = On; length = length buffer; end = entriesEnd all; entries = length ends; back = backSizeOf mode all }
-
-  module _ (counts buf : List ℕ) (long : length buf ≡ length buffer) (area : between buf headSize (entriesEnd (entriesListed (names bytes ends) ids)) ≡ cat entryBytes (entriesListed (names bytes ends) ids))
-      (tallies : (t : ℕ) → t < 256 → getD counts t 0 ≡ count t (placed headSize (entriesListed (names bytes ends) ids))) (tables : length counts ≡ 256) where
-    written-all : Written mode On (length buffer) all (stateWith writer counts buf)
-    written-all =
-        let size : entriesSize all ≡ entriesEnd all - headSize = omega arith in
-        let number = length-names bytes ends in
-        record {
-          mode-is = refl;
-          repeats-is = refl;
-          length-is = refl;
-          length-kept = long;
-          end = refl;
-          entries = sym (number-all bytes ends ids good many);
-          back-size = refl;
-          tables = tables;
-          counts = tallies;
-          area = ap (λ (k : ℕ). take k (drop headSize buf)) size ∙ area;
-          within = size-within mode bytes ends ids good many fits;
-          below = size-small mode bytes ends ids good many fits;
-          ids = omega (arith, back-listed (names bytes ends) ids (omega arith), ap (λ (k : ℕ). idsBack (take k ids)) number, back-words ids (2 ^ 32) (length ends) words);
-        }
-
-    pub standing-all : storedEntries buf (entriesEnd (entriesListed (names bytes ends) ids)) (length ends) ≡ entriesListed (names bytes ends) ids
-    standing-all = written-recorded mode On (length buffer) all (stateWith writer counts buf) written-all
-
-    pub stands-all : ClosePrecondition mode (entriesEnd (entriesListed (names bytes ends) ids)) (length ends) (backSizeOf mode (entriesListed (names bytes ends) ids)) counts buf
-    stands-all =
-        let s = stateWith writer counts buf in
-        let ok = closable s (close-accepted mode On (length buffer) all s written-all) in
-        stands writer counts buf (ok .fit) (ok .fine) (ok .all)

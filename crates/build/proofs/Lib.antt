@@ -1,13 +1,13 @@
 -- Laws of a whole list in one call.
 pub mod Listed
-pub mod StoredAll
-pub mod Whole
+pub mod Offsets
+pub mod CallsLeft
 pub mod AllPut
-pub mod ListWhole
-pub mod BulkBuilt
-pub mod KeptHashes
-pub mod PutWays
+pub mod StoredAll
+pub mod WrittenList
 pub mod SinglePuts
+pub mod Whole
+pub mod ListWhole
 pub mod Theorem
 pub mod Rows
 pub mod Needed

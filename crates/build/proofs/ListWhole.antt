@@ -1,138 +1,295 @@
--- The image of a list, all of whose names are put: what the steps of `write_list` leave, put together. Assumes nothing.
-use Prim.Native.Nat.{ℕ, zero, suc, _+_, _*_, _-_, _^_, _≤_, _<_}
+-- What a list leaves, by either way: the image, what is behind it, and the answers. Assumes nothing.
+use Prim.Native.Nat.{ℕ, zero, suc, _+_, _-_, _^_, _≤_, _<_}
 use native.Mathlib.Omega.{arith}
+use native.Mathlib.Decide.{decLt}
 use mathlib.Core.Path.{_≡_, refl, sym, ap, ap₂, subst, _∙_}
-use mathlib.Core.Bool.{false}
-use mathlib.Core.List.{List, [], _∷_, _++_, map, append-assoc}
-use lib.ListN.{length, getD, take, drop, replicate, length-append, length-replicate, take-append-drop}
-use lib.Seq.{sets, sets-eq, take-at, drop-at, length-take-le}
-use Rattle.image.specs.Bytes.{cat}
-use Rattle.image.specs.Stored.{between}
-use Rattle.image.specs.Image.{Entry, headSize, entryBytes, placed, count, backWords, backSize, backIn, entriesEnd, backSizeOf, imageSize, image}
+use mathlib.Core.Bool.{Bool, true, false, _||_}
+use lib.Dec.{eqb}
+use mathlib.Core.List.{List, [], _∷_, _++_}
+use lib.ListN.{length, getD, take, drop, replicate, length-replicate, getD-replicate, length-drop, take-append-drop, List·getD-eq-default}
+use lib.Seq.{ext-getD, getD-take, getD-drop, length-take-le, drop-drop, drop-at}
 use Rattle.image.specs.declared.Mode.{Mode}
-use Rattle.image.proofs.Sizes.{backIn-twice}
-use Rattle.packed.specs.Names.{names, invalidEnds}
-use Rattle.packed.proofs.NameEnds.{length-names}
-use Rattle.serialize.specs.Serialize.{storedEntries, serialized}
-use Rattle.serialize.specs.Record.{finishedOf}
-use Rattle.serialize.specs.steps.Preconditions.{PrecomputedPre}
-use Rattle.build.specs.Needs.{idsBack}
-use Rattle.build.specs.steps.Stores.{listEntries, StoreListPost, WriteListPre, WriteListPost}
-use Rattle.packed.proofs.NameEnds.{begin-later}
-use Rattle.build.proofs.Needed.{sum-small}
-use Rattle.build.proofs.AllPut.{number-all, names-all, end-all, back-is, size-within, size-small, standing-all, stands-all}
+use Rattle.image.specs.Bytes.{same}
+use Rattle.image.specs.Image.{Entry, headSize, entriesSize, imageSize, image}
+use Rattle.image.specs.steps.Contracts.{Cleared}
+use Rattle.image.proofs.AllOfList.{All}
+use Rattle.image.proofs.Sizes.{length-image}
+use Rattle.image.specs.Zero.{hasZero}
+use Rattle.image.proofs.Bools.{or-false-first, or-false-second}
+use Rattle.image.proofs.Between.{between-same}
+use Rattle.packed.specs.Names.{names, nth, invalidEnds, beginOf}
+use Rattle.packed.proofs.NameEnds.{length-names, nth-name, begin-next, begins-rise}
+use Rattle.writer.specs.declared.CQDBWriter.{CQDBWriter}
+use Rattle.serialize.specs.steps.Meeting.{Pairwise, Distinct}
+use Rattle.writer.specs.declared.Repeats.{Repeats}
+use Rattle.writer.specs.declared.Repeats.the-variants.{On}
+use Rattle.writer.specs.State.{State, stateWith, fresh, refusesRepeats}
+use Rattle.writer.specs.Put.{entryOf}
+use Rattle.writer.specs.Close.{closeRefusal, closedSize, afterClose}
+use Rattle.lists.specs.Calls.{Call, accepted, acceptedFrom, due, sizeOf, puts, WordIds}
+use Rattle.lists.specs.Demand3.{answersOf, afterList, acceptedPuts, imageOf}
+use Rattle.lists.proofs.ListWritten.{Written}
+use Rattle.lists.proofs.ListCloses.{close-accepted, close-closed, closed-buffer}
+use Rattle.lists.proofs.CallLists.{list-accepted, list-written}
+use Rattle.lists.proofs.Theorem.{calls-answered}
+use Rattle.build.specs.declared.Made.{Made}
+use Rattle.build.specs.declared.Built.{Built}
+use Rattle.build.specs.declared.Built.the-variants.{Image}
+use Rattle.build.specs.Build.{callsOf, listed, buildRefusal, madeOf, building}
+use Rattle.build.specs.steps.Capacity.{RoomForAll}
+use Rattle.build.specs.steps.Steps.{entriesListed, begunWith, ListPre, ListBuilt, KeptBehind, Finished}
+use Rattle.build.specs.steps.Stores.{listEntries, NoZeros}
+use Rattle.build.proofs.Whole.{refusal-none, told-all, answers-are, built-made}
+use Rattle.build.proofs.Listed.{length-listed, nth-listed}
+use Rattle.build.proofs.CallsLeft.{puts-keep, accepted-most}
+use Rattle.build.proofs.AllPut.{number-all, names-all, word-ids, all-accepted-are, accepted-all, answers-none, size-all}
 
--- ---- zeros stored in a buffer
+-- ---- lists of words and of names
 
-module _ (l : List ℕ) (at m : ℕ) (room : at + m ≤ length l) (l′ : List ℕ) (to : ℕ) (ends : to ≡ at + m) (is : l′ ≡ sets l at (replicate (to - at) 0)) where
-  zeros : List ℕ
-  zeros = replicate m 0
+-- the refusals: cleared, with what is behind them as it was
+pub refusals-cleared : (n : ℕ) (then before places : List ℕ) → length then ≡ length before → n ≤ length before
+    → Cleared n before then → drop n before ≡ drop n places → then ≡ replicate n 0 ++ drop n places
+refusals-cleared n then before places long inside cleared rest =
+    let front = length-take-le n then (omega arith) in
+    sym (take-append-drop n then)
+    ∙ ap₂ {C = List ℕ} (λ (a b : List ℕ). a ++ b)
+    (ext-getD 0 (take n then) (replicate n 0) (front ∙ sym (length-replicate {A = ℕ} n 0))
+    (λ i h. getD-take n then i 0 (omega (arith, front)) ∙ cleared .zero i (omega (arith, front)) ∙ sym (getD-replicate n i 0 0 (omega (arith, front)))))
+    (ext-getD 0 (drop n then) (drop n before) (length-drop n then ∙ ap (λ (k : ℕ). k - n) long ∙ sym (length-drop n before))
+    (λ i h. getD-drop n then i 0 ∙ cleared .kept (n + i) (omega arith) ∙ sym (getD-drop n before i 0))
+    ∙ rest)
 
-  parts : l′ ≡ take at l ++ zeros ++ drop (at + m) l
-  unfolding zeros
-  parts =
-      let n : length {A = ℕ} (replicate m 0) ≡ m = length-replicate {A = ℕ} m 0 in
-      let k : to - at ≡ m = omega arith in
-      is
-      ∙ ap (λ (j : ℕ). sets l at (replicate j 0)) k
-      ∙ sets-eq (replicate m 0) l at (omega arith)
-      ∙ ap (λ (j : ℕ). take at l ++ replicate m 0 ++ drop (at + j) l) n
+-- names of bytes without a zero byte
+zero-free-take : (n : ℕ) (l : List ℕ) → hasZero l ≡ false → hasZero (take n l) ≡ false
+unfolding hasZero
+zero-free-take zero l e = refl
+zero-free-take (suc n) [] e = refl
+zero-free-take (suc n) (b ∷ l) e =
+    ap₂ {C = Bool} (λ (x y : Bool). x || y) (or-false-first (eqb b 0) (hasZero l) e) (zero-free-take n l (or-false-second (eqb b 0) (hasZero l) e))
 
-  front : length (take at l) ≡ at
-  front = length-take-le at l (omega arith)
+zero-free-drop : (n : ℕ) (l : List ℕ) → hasZero l ≡ false → hasZero (drop n l) ≡ false
+unfolding hasZero
+zero-free-drop zero l e = e
+zero-free-drop (suc n) [] e = refl
+zero-free-drop (suc n) (b ∷ l) e = zero-free-drop n l (or-false-second (eqb b 0) (hasZero l) e)
 
-  pub zeros-between : between l′ at to ≡ replicate m 0
-  unfolding zeros
-  zeros-between =
-      let k : to - at ≡ m = omega arith in
-      ap (λ (b : List ℕ). take (to - at) (drop at b)) (parts ∙ append-assoc (take at l) (replicate m 0) (drop (at + m) l))
-      ∙ ap (take (to - at)) (drop-at (take at l) (replicate m 0 ++ drop (at + m) l) at front)
-      ∙ take-at (replicate m 0) (drop (at + m) l) (to - at) (length-replicate {A = ℕ} m 0 ∙ sym k)
+take-front : (n m : ℕ) (l : List ℕ) → n ≤ m → take n (take m l) ≡ take n l
+take-front zero m l h = refl
+take-front (suc n) zero l h = absurd (omega arith)
+take-front (suc n) (suc m) [] h = refl
+take-front (suc n) (suc m) (x ∷ l) h = ap (λ (r : List ℕ). x ∷ r) (take-front n m l (omega arith))
 
-  pub zeros-behind : drop to l′ ≡ drop to l
-  unfolding zeros
-  zeros-behind =
-      let n : length {A = ℕ} (replicate m 0) ≡ m = length-replicate {A = ℕ} m 0 in
-      ap (drop to) parts
-      ∙ drop-at (take at l ++ replicate m 0) (drop (at + m) l) to (omega (arith, length-append (take at l) (replicate m 0), front))
-      ∙ ap (λ (j : ℕ). drop j l) (sym ends)
+pub names-zero-free : (bytes ends : List ℕ) → invalidEnds (length bytes) 0 ends ≡ false → (last : ℕ) → last ≡ beginOf ends (length ends)
+    → hasZero (take last bytes) ≡ false → NoZeros bytes ends
+names-zero-free bytes ends good last is e j h =
+    let from = beginOf ends j in
+    let to = getD ends j 0 in
+    let up : to ≤ last = omega (arith, is, begin-next ends j, begins-rise (length bytes) ends good (length ends) (j + 1) (omega arith) (omega arith)) in
+    ap hasZero (nth-name bytes ends j h ∙ sym (between-same (take last bytes) bytes to (take-front to last bytes up) from))
+    ∙ zero-free-take (to - from) (drop from (take last bytes)) (zero-free-drop from (take last bytes) e)
 
--- ---- the numbers of the image
+-- of each two in a list
+each-nth : {A : Type 0} (P : A → Type 0) (xs : List A) (d : A) → All P xs → (i : ℕ) → i < length xs → P (getD xs i d)
+each-nth P [] d all i h = absurd (omega arith)
+each-nth P (x ∷ xs) d all zero h = all .0
+each-nth P (x ∷ xs) d all (suc i) h = each-nth P xs d (all .1) i (omega arith)
 
--- as the code has them
-pub record Numbers (mode : Mode) (buffer bytes ends ids : List ℕ) (end back at size : ℕ) : Type 0 where
-  pub end-is : end ≡ entriesEnd (listEntries bytes ends ids)
-  pub back-is : back ≡ backSizeOf mode (listEntries bytes ends ids)
-  pub at-is : at ≡ entriesEnd (listEntries bytes ends ids) + 16 * length ends
-  pub size-is : size ≡ imageSize mode (listEntries bytes ends ids)
-  pub within : size ≤ length buffer
-  pub small : size ≤ 4294967295
+pairwise-nth : {A : Type 0} (R : A → A → Type 0) (xs : List A) (d : A) → Pairwise R xs → (i j : ℕ) → j < i → i < length xs → R (getD xs j d) (getD xs i d)
+pairwise-nth R [] d two i j h k = absurd (omega arith)
+pairwise-nth R (x ∷ xs) d two zero j h k = absurd (omega arith)
+pairwise-nth R (x ∷ xs) d two (suc i) zero h k = each-nth (R x) xs d (two .0) i (omega arith)
+pairwise-nth R (x ∷ xs) d two (suc i) (suc j) h k = pairwise-nth R xs d (two .1) i j (omega arith) (omega arith)
 
-module _ {mode : Mode} {buffer bytes ends ids counts tables : List ℕ} (pre : WriteListPre mode buffer bytes ends ids counts tables) where
+-- what stands behind some bytes of others
+drop-behind : (a l : List ℕ) (n k : ℕ) → length a ≡ n → n ≤ k → drop k (a ++ drop n l) ≡ drop k l
+drop-behind a l n k e h =
+    let is : n + (k - n) ≡ k = omega arith in
+    ap (λ (j : ℕ). drop j (a ++ drop n l)) (sym is)
+    ∙ sym (drop-drop (k - n) n (a ++ drop n l))
+    ∙ ap (drop (k - n)) (drop-at a (drop n l) n e)
+    ∙ drop-drop (k - n) n l
+    ∙ ap (λ (j : ℕ). drop j l) is
+
+-- a record that was begun is fresh
+pub begun-fresh : (mode : Mode) (repeats : Repeats) (buffer counts : List ℕ) (w : CQDBWriter) → counts ≡ replicate 256 0 → w ≡ begunWith mode repeats (length buffer)
+    → stateWith w counts buffer ≡ fresh (w .mode) (w .repeats) buffer
+unfolding fresh
+begun-fresh mode repeats buffer counts w z e =
+    ap₂ (λ (x : CQDBWriter) (c : List ℕ). stateWith x c buffer) e z ∙ sym (ap (λ (x : CQDBWriter). fresh (x .mode) (x .repeats) buffer) e)
+
+-- words that are all cleared
+pub all-zero : (l : List ℕ) (n : ℕ) → length l ≡ n → ((i : ℕ) → i < n → getD l i 0 ≡ 0) → (i : ℕ) → getD l i 0 ≡ 0
+all-zero l n e zeros i =
+    elim (decLt i n) [
+      | yes p ↦ zeros i p
+      | no p ↦ List·getD-eq-default l 0 {n = i} (omega arith)
+    ]
+
+-- ---- two lists of the same accepted puts have one image
+
+module _ (mode : Mode) (r₁ r₂ : Repeats) (b₁ b₂ : List ℕ) (cs : List Call) (room₁ : headSize ≤ length b₁) (room₂ : headSize ≤ length b₂) (word : WordIds mode cs)
+    (alike : acceptedPuts mode r₁ b₁ cs ≡ acceptedPuts mode r₂ b₂ cs) where
+  pub size-alike : closedSize (afterList mode r₁ b₁ cs) ≡ closedSize (afterList mode r₂ b₂ cs)
+  size-alike = calls-answered mode r₁ b₁ cs room₁ word .sized ∙ ap (sizeOf mode) alike ∙ sym (calls-answered mode r₂ b₂ cs room₂ word .sized)
+
+  pub image-alike : imageOf mode r₁ b₁ cs ≡ imageOf mode r₂ b₂ cs
+  image-alike = calls-answered mode r₁ b₁ cs room₁ word .imaged ∙ ap (image mode) alike ∙ sym (calls-answered mode r₂ b₂ cs room₂ word .imaged)
+
+-- ---- the list
+
+module _ (mode : Mode) (repeats : Repeats) {buffer bytes ends ids refusals : List ℕ} (pre : ListPre buffer bytes ends ids refusals)
+    (words : (i : ℕ) → i < length ends → getD ids i 0 < 2 ^ 32) where
+  abbrev cs : List Call
+  cs = listed bytes ends ids
+
   abbrev n : ℕ
-  n = length ends
+  n = length buffer
 
+  abbrev L : State
+  L = afterList mode repeats buffer cs
+
+  word : WordIds mode cs
+  word = word-ids mode (names bytes ends) ids (λ i h. words i (omega (arith, length-names bytes ends)))
+
+  pub left-written : Written mode repeats (length buffer) (accepted mode repeats (length buffer) (listed bytes ends ids)) (afterList mode repeats buffer (listed bytes ends ids))
+  left-written = list-written mode repeats buffer (pre .head-fits) cs word
+
+  pub list-closes : {s : State} → s ≡ afterList mode repeats buffer (listed bytes ends ids) → closeRefusal s ≡ 0
+  list-closes is = ap closeRefusal is ∙ close-accepted mode repeats n (accepted mode repeats n cs) L left-written
+
+  ok : buildRefusal bytes ends (length ids) (length refusals) (length buffer) ≡ 0
+  ok = refusal-none bytes ends (length ids) (length refusals) (length buffer) (pre .packed) (pre .ids-long) (pre .refusals-long) (pre .head-fits)
+
+  -- the bytes behind an image of all names
+  pub closed-behind : KeptBehind mode bytes ends ids buffer (afterClose (afterList mode repeats buffer (listed bytes ends ids)) .buffer)
+  unfolding fresh accepted
+  closed-behind =
+      let es = accepted mode repeats n cs in
+      let k = imageSize mode (puts cs) in
+      let most = accepted-most mode repeats n [] (names bytes ends) ids in
+      ap (λ (t : State). drop k (t .buffer)) (close-closed mode repeats n es L left-written)
+      ∙ ap (drop k) (closed-buffer mode repeats n es L left-written)
+      ∙ drop-behind (image mode es) (L .buffer) (imageSize mode es) k (length-image mode es) most
+      ∙ puts-keep (fresh mode repeats buffer) (names bytes ends) ids k (omega arith)
+
+  -- one by one
+  pub list-built : {s : State} → s ≡ afterList mode repeats buffer (listed bytes ends ids) → {m : Made} {bufferThen refusalsThen : List ℕ} → Finished s m bufferThen
+      → refusalsThen ≡ answersOf mode repeats buffer (listed bytes ends ids) ++ drop (length ends) refusals
+      → ListBuilt mode repeats buffer bytes ends ids refusals (Image m) bufferThen refusalsThen
+  unfolding imageOf
+  list-built {s} is {m} {bufferThen} {refusalsThen} done told =
+      let leaves = done .leaves ∙ ap (λ (t : State). afterClose t .buffer) is in
+      let counted = ap (λ (t : State). t .writer .entries) is ∙ left-written .entries ∙ ap length (sym (list-accepted mode repeats buffer (pre .head-fits) cs word)) in
+      record {
+        gives = built-made mode repeats buffer bytes ends ids refusals ok m (done .size ∙ ap closedSize is) (done .accepted ∙ counted);
+        imaged = ap (take (closedSize L)) leaves;
+        behind = ap (drop (imageSize mode (puts cs))) leaves ∙ closed-behind;
+        answers = told-all mode repeats buffer bytes ends ids refusals ok refusalsThen told;
+      }
+
+  -- after a trial that left what is behind an image of all names, and behind the answers
+  pub built-after : {buffer′ refusals′ : List ℕ} → length buffer′ ≡ length buffer → KeptBehind mode bytes ends ids buffer buffer′ → length refusals′ ≡ length refusals
+      → drop (length ends) refusals′ ≡ drop (length ends) refusals → {built : Built} {bufferThen refusalsThen : List ℕ}
+      → ListBuilt mode repeats buffer′ bytes ends ids refusals′ built bufferThen refusalsThen
+      → ListBuilt mode repeats buffer bytes ends ids refusals built bufferThen refusalsThen
+  unfolding madeOf
+  built-after {buffer′} {refusals′} size kept long tail {built} {bufferThen} {refusalsThen} done =
+      let room′ : headSize ≤ length buffer′ = omega (arith, size, pre .head-fits) in
+      let ok′ : buildRefusal bytes ends (length ids) (length refusals′) (length buffer′) ≡ 0 =
+      ap₂ (λ (p b : ℕ). buildRefusal bytes ends (length ids) p b) long size ∙ ok in
+      let told = calls-answered mode repeats buffer cs (pre .head-fits) word in
+      let told′ = calls-answered mode repeats buffer′ cs room′ word in
+      let alike : acceptedPuts mode repeats buffer′ cs ≡ acceptedPuts mode repeats buffer cs =
+      told′ .decided ∙ ap (λ (k : ℕ). accepted mode repeats k cs) size ∙ sym (told .decided) in
+      let answered : answersOf mode repeats buffer′ cs ≡ answersOf mode repeats buffer cs =
+      told′ .answered ∙ ap (λ (k : ℕ). due mode repeats k cs) size ∙ sym (told .answered) in
+      let sized = size-alike mode repeats repeats buffer′ buffer cs room′ (pre .head-fits) word alike in
+      let made = madeOf mode repeats buffer′ cs in
+      record {
+        gives =
+            done .gives
+            ∙ sym (built-made mode repeats buffer′ bytes ends ids refusals′ ok′ made refl refl)
+            ∙ built-made mode repeats buffer bytes ends ids refusals ok made sized (ap length alike);
+        imaged =
+            ap (λ (k : ℕ). take k bufferThen) (sym sized) ∙ done .imaged ∙ image-alike mode repeats repeats buffer′ buffer cs room′ (pre .head-fits) word alike;
+        behind = done .behind ∙ kept;
+        answers = told-all mode repeats buffer bytes ends ids refusals ok refusalsThen
+            (done .answers ∙ answers-are mode repeats buffer′ bytes ends ids refusals′ ok′ ∙ ap₂ {C = List ℕ} (λ (a b : List ℕ). a ++ b) answered tail);
+      }
+
+-- ---- the direct path: the list was put with repeats on
+
+module _ (mode : Mode) {buffer bytes ends ids refusals : List ℕ} (pre : ListPre buffer bytes ends ids refusals) (fits : RoomForAll mode ends ids (length buffer))
+    (words : (i : ℕ) → i < length ends → getD ids i 0 < 2 ^ 32) (clean : NoZeros bytes ends) where
   abbrev es : List Entry
   es = listEntries bytes ends ids
 
-  number : length es ≡ n
-  number = number-all bytes ends ids (pre .packed) (pre .ids-long)
+  -- the entries are all names
+  pub all-put : accepted mode On (length buffer) (listed bytes ends ids) ≡ listEntries bytes ends ids
+  all-put =
+      all-accepted-are mode On buffer bytes ends ids (pre .packed) (pre .ids-long) (pre .head-fits) fits words clean
+      (λ off. let z : _≡_ {A = ℕ} 0 1 = ap one off in absurd (omega arith))
+    where
+      one : Bool → ℕ
+      one true = 1
+      one false = 0
 
-  pub end-small : 2072 + getD ends (n - 1) 0 + 25 * n ≤ 4294967295
-  end-small = omega (arith, sum-small (pre .ids-long) (pre .fits), begin-later ends n (λ z. omega (arith, z, pre .some)))
+  -- one close leaves their image, and gives its size
+  pub left-image : {b : List ℕ} → b ≡ image mode (listEntries bytes ends ids) ++ drop (imageSize mode (listEntries bytes ends ids)) buffer
+      → b ≡ afterClose (afterList mode On buffer (listed bytes ends ids)) .buffer
+  unfolding fresh
+  left-image e =
+      let n = length buffer in
+      let L = afterList mode On buffer (listed bytes ends ids) in
+      let put = accepted mode On n (listed bytes ends ids) in
+      let left = left-written mode On pre words in
+      e
+      ∙ sym
+      (ap (λ (t : State). t .buffer) (close-closed mode On n put L left)
+      ∙ closed-buffer mode On n put L left
+      ∙ ap (λ (l : List Entry). image mode l ++ drop (imageSize mode l) (L .buffer)) all-put
+      ∙ ap (λ (l : List ℕ). image mode es ++ l) (puts-keep (fresh mode On buffer) (names bytes ends) ids (imageSize mode es) (omega arith)))
 
-  pub numbers : {back : ℕ} → back ≡ backIn mode (idsBack (take (length ends) ids))
-      → let end = 2072 + getD ends (length ends - 1) 0 + 9 * length ends in
-      Numbers mode buffer bytes ends ids end back (end + 16 * length ends) (end + 16 * length ends + 4 * back)
-  numbers {back} e =
-      let b : back ≡ backSizeOf mode es = e ∙ sym (back-is mode bytes ends ids (pre .packed) (pre .ids-long)) in
-      let end : 2072 + getD ends (n - 1) 0 + 9 * n ≡ entriesEnd es =
-      omega (arith, end-all bytes ends ids (pre .packed) (pre .ids-long), begin-later ends n (λ z. omega (arith, z, pre .some))) in
-      let size : 2072 + getD ends (n - 1) 0 + 9 * n + 16 * n + 4 * back ≡ imageSize mode es = omega (arith, number) in
+  pub left-size : closedSize (afterList mode On buffer (listed bytes ends ids)) ≡ imageSize mode (listEntries bytes ends ids)
+  left-size =
+      size-all mode On buffer bytes ends ids (pre .packed) (pre .ids-long) (pre .head-fits) fits words clean
+      (λ off. let z : _≡_ {A = ℕ} 0 1 = ap one off in absurd (omega arith))
+    where
+      one : Bool → ℕ
+      one true = 1
+      one false = 0
+
+  distinct-names : Distinct (listEntries bytes ends ids) → (i j : ℕ) → j < i → i < length ends → same (nth (names bytes ends) j) (nth (names bytes ends) i) ≡ false
+  distinct-names two i j h k =
+      let number = number-all bytes ends ids (pre .packed) (pre .ids-long) in
+      let many : length (names bytes ends) ≤ length ids = omega (arith, length-names bytes ends, pre .ids-long) in
+      let none = entryOf [] 0 in
+      let its : (m : ℕ) → m < length ends → getD es m none .name ≡ nth (names bytes ends) m = λ m b.
+      ap (λ (e : Entry). e .name) (nth-listed (names bytes ends) ids m none many (omega (arith, length-names bytes ends))) in
+      ap₂ same (sym (its j (omega arith))) (sym (its i k)) ∙ pairwise-nth (λ (x y : Entry). same (x .name) (y .name) ≡ false) es none two i j h (omega (arith, number))
+
+  pub all-built : (repeats : Repeats) → (refusesRepeats repeats ≡ true → Distinct (listEntries bytes ends ids)) → {size : ℕ} {bufferThen refusalsThen : List ℕ}
+      → size ≡ closedSize (afterList mode On buffer (listed bytes ends ids)) → bufferThen ≡ afterClose (afterList mode On buffer (listed bytes ends ids)) .buffer
+      → refusalsThen ≡ replicate (length ends) 0 ++ drop (length ends) refusals
+      → ListBuilt mode repeats buffer bytes ends ids refusals (Image (record { size = size; accepted = length ends })) bufferThen refusalsThen
+  unfolding imageOf
+  all-built repeats apart {size} {bufferThen} {refusalsThen} sized leaves cleared =
+      let good = pre .packed in
+      let many = pre .ids-long in
+      let room = pre .head-fits in
+      let cs = listed bytes ends ids in
+      let word = word-ids mode (names bytes ends) ids (λ i h. words i (omega (arith, length-names bytes ends))) in
+      let distinct : refusesRepeats repeats ≡ true → (i j : ℕ) → j < i → i < length ends → same (nth (names bytes ends) j) (nth (names bytes ends) i) ≡ false = λ off. distinct-names (apart off) in
+      let all = accepted-all mode repeats buffer bytes ends ids good many room fits words clean distinct in
+      let alike : acceptedPuts mode On buffer cs ≡ acceptedPuts mode repeats buffer cs = list-accepted mode On buffer room cs word ∙ all-put ∙ sym all in
+      let same-size = size-alike mode On repeats buffer buffer cs room room word alike in
+      let ok = refusal-none bytes ends (length ids) (length refusals) (length buffer) good many (pre .refusals-long) room in
       record {
-        end-is = end;
-        back-is = b;
-        at-is = omega arith;
-        size-is = size;
-        within = omega (arith, size-within mode bytes ends ids (pre .packed) (pre .ids-long) (pre .fits));
-        small = omega (arith, size-small mode bytes ends ids (pre .packed) (pre .ids-long) (pre .fits));
+        gives = built-made mode repeats buffer bytes ends ids refusals ok (record { size = size; accepted = length ends })
+            (sized ∙ same-size) (sym (ap length all ∙ number-all bytes ends ids good many));
+        imaged =
+            ap₂ take (sym same-size) leaves ∙ image-alike mode On repeats buffer buffer cs room room word alike;
+        behind = ap (drop (imageSize mode (puts cs))) leaves ∙ closed-behind mode On pre words;
+        answers = told-all mode repeats buffer bytes ends ids refusals ok refusalsThen
+            (cleared ∙ ap (λ (l : List ℕ). l ++ drop (length ends) refusals) (sym (answers-none mode repeats buffer bytes ends ids good many room fits words clean distinct)));
       }
-
-  finished-is : finishedOf mode (entriesEnd es) n (backSizeOf mode es) ≡ imageSize mode es
-  finished-is = omega (arith, number, backIn-twice mode (backSize es))
-
-  -- ---- what finishing asks for, and what it leaves
-
-  module _ (words : (i : ℕ) → i < length ends → getD ids i 0 < 2 ^ 32) {at : ℕ} {cleared buf : List ℕ} (stored : StoreListPost mode at bytes ends ids cleared buf)
-      (long : length cleared ≡ length buffer) where
-    named : map (λ (e : Entry). e .name) es ≡ names bytes ends
-    named = names-all bytes ends ids (pre .packed) (pre .ids-long)
-
-    is-standing : storedEntries buf (entriesEnd es) n ≡ es
-    is-standing =
-        standing-all mode buffer bytes ends ids (pre .packed) (pre .ids-long) (pre .fits) words counts buf (stored .long ∙ long) (stored .area) (pre .counted es named) (pre .tables)
-
-    pub asked : {end back size : ℕ} → Numbers mode buffer bytes ends ids end back at size
-        → PrecomputedPre mode end (length ends) back counts tables buf
-    asked {end} {back} z =
-        subst (λ (o : ℕ). PrecomputedPre mode o n back counts tables buf) (sym (z .end-is))
-        (subst (λ (b : ℕ). PrecomputedPre mode (entriesEnd es) n b counts tables buf) (sym (z .back-is)) (record {
-          closable = stands-all mode buffer bytes ends ids (pre .packed) (pre .ids-long) (pre .fits) words counts buf (stored .long ∙ long) (stored .area) (pre .counted es named) (pre .tables);
-          tables = pre .tabled (storedEntries buf (entriesEnd es) n) (ap (map (λ (e : Entry). e .name)) is-standing ∙ named);
-          back-array =
-              ap₂ (between buf) (sym (z .at-is)) finished-is
-              ∙ stored .linked
-              ∙ ap₂ (λ (qs : List Entry) (k : ℕ). backWords (placed headSize qs) k) (sym is-standing) (sym (backIn-twice mode (backSize es)));
-        }))
-
-    pub left-image : {end back size : ℕ} → Numbers mode buffer bytes ends ids end back at size → drop size cleared ≡ drop size buffer → {l : List ℕ}
-        → l ≡ serialized mode end (length ends) back buf → WriteListPost mode buffer bytes ends ids size l
-    left-image {end} {back} {size} z behind g =
-        record {
-          size = z .size-is;
-          leaves =
-              g
-              ∙ ap₂ (λ (o b : ℕ). serialized mode o n b buf) (z .end-is) (z .back-is)
-              ∙ ap₂ (λ (qs : List Entry) (k : ℕ). image mode qs ++ drop k buf) is-standing finished-is
-              ∙ ap (λ (r : List ℕ). image mode es ++ r) (stored .behind ∙ subst (λ (k : ℕ). drop k cleared ≡ drop k buffer) (z .size-is) behind);
-        }

@@ -81,16 +81,14 @@ pub sum-small : {mode : Mode} {ends ids : List ℕ} {capacity : ℕ} → length 
 unfolding bytesNeeded
 sum-small {mode} {ends} {ids} many fits = omega (arith, fits .small, length-take-le (length ends) ids many)
 
-pub capacity-known : (mode : Mode) (ends ids : List ℕ) (r : Needs) (capacity words : ℕ) → r ≡ needed mode (getD ends (length ends - 1) 0) (take (length ends) ids)
-    → (length ends ≡ 0 → ⊥) → length ends ≤ length ids → r .bytes ≤ capacity → r .bytes ≤ 4294967295 → r .words ≤ words → Capacity mode ends ids capacity words
+pub capacity-known : (mode : Mode) (ends ids : List ℕ) (r : Needs) (capacity : ℕ) → r ≡ needed mode (getD ends (length ends - 1) 0) (take (length ends) ids)
+    → (length ends ≡ 0 → ⊥) → length ends ≤ length ids → r .bytes ≤ capacity → r .bytes ≤ 4294967295 → Capacity mode ends ids capacity
 unfolding needed bytesNeeded
-capacity-known mode ends ids r capacity words e some many within small enough =
+capacity-known mode ends ids r capacity e some many within small =
     let bytes : r .bytes ≡ bytesForAll mode ends ids =
     ap (λ (x : Needs). x .bytes) e ∙ ap (λ (size : ℕ). bytesNeeded mode size (take (length ends) ids)) (sym (begin-later ends (length ends) some)) in
-    let all = length-take-le (length ends) ids many in
     record {
       fits = record { within = omega (arith, bytes, within); small = omega (arith, bytes, small) };
-      scratch = omega (arith, ap (λ (x : Needs). x .words) e, enough, bytes, small, all);
       some = omega (arith, some);
     }
 

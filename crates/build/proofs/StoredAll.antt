@@ -1,293 +1,279 @@
--- Entries and their links stored one after the other: what stands in the buffer before each turn, and at the end. Assumes nothing.
-use Prim.Native.Nat.{ℕ, zero, suc, _+_, _*_, _-_, _≤_, _<_}
+-- The names of a list hashed, and its entries stored and partitioned one after the other: what holds before each turn. Assumes nothing.
+use Prim.Native.Nat.{ℕ, suc, _+_, _*_, _-_, _^_, _≤_, _<_}
 use native.Mathlib.Omega.{arith}
 use native.Mathlib.Numerals.{add-one}
+use native.Mathlib.Decide.{ℕ-discrete}
+use native.Mathlib.Nat.{mod-lt}
 use mathlib.Core.Path.{_≡_, refl, sym, ap, ap₂, subst, _∙_}
+use mathlib.Core.Bool.{Bool, true, false, _||_}
 use mathlib.Core.List.{List, [], _∷_, _++_, append-nil, append-assoc}
-use lib.ListN.{length, getD, take, drop, replicate, length-append, length-drop, take-append-drop}
-use lib.Seq.{sets, take-add, take-at, drop-at, take-suc, take-all, split-at, sets-eq, length-take-le}
+use lib.ListN.{length, getD, set, take, drop, replicate, length-set, length-append, length-drop, length-take, length-replicate, getD-replicate, drop-of-length-le}
+use lib.Seq.{sets, sets-eq, take-all, take-suc, split-at, getD-set-same, getD-set-other, drop-set-lt, drop-drop, drop-cons}
+use lib.Dec.{eqb}
+use Rattle.jhash.specs.NameHash.{hashOf, hashOrZero}
+use Rattle.jhash.proofs.Outcomes.{hash-or-zero-short}
 use Rattle.image.specs.declared.Mode.{Mode}
-use Rattle.image.specs.declared.Mode.the-variants.{Twoway, Oneway}
-use Rattle.image.specs.Bytes.{le32, cat, range}
-use Rattle.image.specs.Stored.{between}
-use Rattle.image.specs.Image.{Entry, Placed, headSize, entryBytes, entrySize, entriesSize, placed, backSize, backWords, backIn, entriesEnd, backSizeOf, imageSize}
-use Rattle.image.proofs.Words.{length-le32}
+use Rattle.image.specs.Bytes.{cat, range}
+use Rattle.image.specs.Tables.{tableOf}
+use Rattle.image.specs.Zero.{hasZero}
+use Rattle.image.specs.Tally.{raisedCounts}
+use Rattle.image.specs.Image.{Entry, headSize, entryBytes, entriesSize, placed, count, backWords, backSizeOf, backOffset, entriesEnd, imageSize, headWords, tableRows}
+use Rattle.image.proofs.AllOfList.{All}
 use Rattle.image.proofs.Lists.{cat-append}
-use Rattle.image.proofs.Sizes.{length-entryBytes, length-entries, entriesSize-append, length-backWords}
-use Rattle.image.proofs.Between.{length-between}
-use Rattle.image.proofs.AllOfList.{all-middle}
-use Rattle.image.proofs.EntryAt.{ids-below}
-use Rattle.serialize.specs.steps.Insertion.{backStored}
-use Rattle.serialize.proofs.PartialImage.{zeros-links}
-use Rattle.serialize.proofs.EntryAdded.{links-more}
-use Rattle.serialize.proofs.InsertStep.{store-in, nextOf, placed-more, next-at}
-use Rattle.packed.specs.Names.{names, nth, beginOf}
-use Rattle.packed.proofs.NameEnds.{length-names, nth-name, begin-next, placed as ends-placed}
+use Rattle.image.proofs.Parts.{placedIn}
+use Rattle.image.proofs.Sizes.{entriesSize-append, length-entries, length-entryBytes, length-placed, count-nil, length-headWords, length-tableRows}
+use Rattle.image.proofs.Stores.{sets-left, sets-right-at}
+use Rattle.packed.specs.Names.{names, nth}
+use Rattle.packed.proofs.NameEnds.{length-names}
+use Rattle.serialize.specs.steps.Partition.{tableOffsetsFrom, partitioned, advanced, EntryPartitioned}
+use Rattle.serialize.proofs.PartialImage.{upToEntries}
+use Rattle.serialize.proofs.HeadRows.{Counts}
+use Rattle.serialize.proofs.TableAreas.{areaWith}
+use Rattle.serialize.proofs.Partitioned.{Places, halfway, half-step, half-places}
+use Rattle.serialize.proofs.TablesFilled.{filledTo, filled-first, none-parted, places-first}
 use Rattle.writer.specs.Put.{entryOf}
-use Rattle.build.specs.steps.Stores.{listEntries, StoreListPre, StoreListPost}
+use Rattle.lists.proofs.Appended.{count-within, count-same, count-other}
+use Rattle.build.specs.steps.Stores.{listEntries, Hashes, Tallied, HashListPre, HashListPost}
 use Rattle.build.proofs.Listed.{length-listed, nth-listed}
 
--- ---- parts of a buffer
+-- ---- zero bytes, a turn at a time
 
--- the bytes up to h, to at, to size, and behind
-parted : (h at size : ℕ) (buf : List ℕ) → h ≤ at → at ≤ size
-    → buf ≡ take h buf ++ [] ++ between buf h at ++ between buf at size ++ drop size buf
-parted h at size buf p q =
-    let m : at ≡ h + (at - h) = omega arith in
-    let n : size ≡ at + (size - at) = omega arith in
-    let first : take at buf ≡ take h buf ++ [] ++ between buf h at =
-    ap (λ (k : ℕ). take k buf) m ∙ take-add h (at - h) buf ∙ ap (λ (l : List ℕ). l ++ between buf h at) (sym (append-nil (take h buf))) in
-    sym (take-append-drop size buf)
-    ∙ ap (λ (l : List ℕ). l ++ drop size buf)
-    (ap (λ (k : ℕ). take k buf) n ∙ take-add at (size - at) buf ∙ ap (λ (l : List ℕ). l ++ between buf at size) first)
-
--- a part is read back
-between-part : (a b c : List ℕ) (o end : ℕ) → length a ≡ o → end ≡ o + length b → between (a ++ b ++ c) o end ≡ b
-between-part a b c o end e f =
-    ap (λ (l : List ℕ). take (end - o) l) (ap (drop o) (append-assoc a b c) ∙ drop-at a (b ++ c) o e)
-    ∙ take-at b c (end - o) (omega arith)
-
--- stores at the front of a part
-stored-front : (a m c vs : List ℕ) (o : ℕ) → o ≡ length a → length vs ≤ length m → sets (a ++ m ++ c) o vs ≡ a ++ vs ++ drop (length vs) m ++ c
-stored-front a m c vs o e h =
-    store-in a m c vs o 0 (omega arith) (omega arith)
-    ∙ ap (λ (l : List ℕ). a ++ l ++ c) front
-    ∙ ap (λ (l : List ℕ). l ++ c) (sym (append-assoc a vs (drop (length vs) m)))
+pub any-zero-step : (bytes : List ℕ) (i : ℕ) (b x : Bool) → i < length bytes → (b || hasZero (drop i bytes)) ≡ x
+    → ((b || eqb (getD bytes i 0) 0) || hasZero (drop (i + 1) bytes)) ≡ x
+unfolding hasZero
+any-zero-step bytes i b x h p =
+    let e : suc i ≡ i + 1 = omega arith in
+    let z = eqb (getD bytes i 0) 0 in
+    assoc b z (hasZero (drop (i + 1) bytes))
+    ∙ ap (λ (k : ℕ). b || (z || hasZero (drop k bytes))) (sym e)
+    ∙ sym (ap (λ (l : List ℕ). b || hasZero l) (drop-cons bytes i 0 h))
+    ∙ p
   where
-    front : sets m 0 vs ≡ vs ++ drop (length vs) m
-    front =
-        let z : 0 + length vs ≡ length vs = omega arith in
-        sets-eq vs m 0 (omega arith) ∙ ap (λ (k : ℕ). vs ++ drop k m) z
+    assoc : (a b c : Bool) → ((a || b) || c) ≡ (a || (b || c))
+    assoc true b c = refl
+    assoc false b c = refl
 
--- ---- the buffer when the entries qs of the entries es and their links are stored
+pub any-zero-end : (bytes : List ℕ) (i : ℕ) (b x : Bool) → length bytes ≤ i → (b || hasZero (drop i bytes)) ≡ x → b ≡ x
+unfolding hasZero
+any-zero-end bytes i b x h p = none b (ap (λ (l : List ℕ). b || hasZero l) (sym (drop-of-length-le bytes {i = i} h)) ∙ p)
+  where
+    none : (b : Bool) → (b || false) ≡ x → b ≡ x
+    none true q = q
+    none false q = q
 
-pub record Storing (mode : Mode) (es qs : List Entry) (buf₀ buf : List ℕ) : Type 0 where
-  -- the head, and what is left between the entries so far and the back array
-  pub head : List ℕ
-  pub gap : List ℕ
-  pub long : length head ≡ headSize
-  pub left : headSize + entriesSize qs + length gap ≡ entriesEnd es + 16 * length es
-  pub is : buf ≡ head ++ cat entryBytes qs ++ gap ++ backWords (placed headSize qs) (backSizeOf mode es) ++ drop (imageSize mode es) buf₀
+-- ---- the first entries and the next one
 
-pub storing-start : (mode : Mode) (es : List Entry) (buf : List ℕ) (at : ℕ) → at ≡ entriesEnd es + 16 * length es → imageSize mode es ≤ length buf
-    → between buf at (imageSize mode es) ≡ replicate (4 * backSizeOf mode es) 0 → Storing mode es [] buf buf
-unfolding cat placed entriesSize
-storing-start mode es buf at e fits cleared =
-    let n = backSizeOf mode es in
-    let size = imageSize mode es in
-    let none : between buf at size ≡ backWords [] n =
-    cleared ∙ sym (zeros-links n ∙ ap (λ (k : ℕ). replicate k 0) (length-backWords [] n)) in
-    record {
-      head = take headSize buf;
-      gap = between buf headSize at;
-      long = length-take-le headSize buf (omega arith);
-      left = omega (arith, length-between buf headSize at (omega arith) (omega arith));
-      is =
-          parted headSize at size buf (omega arith) (omega arith)
-          ∙ ap (λ (l : List ℕ). take headSize buf ++ [] ++ between buf headSize at ++ l ++ drop size buf) none;
-    }
+module _ (bytes ends ids : List ℕ) (many : length ends ≤ length ids) where
+  abbrev xs : List (List ℕ)
+  xs = names bytes ends
 
--- the part before the back array
-front-long : (mode : Mode) (es qs : List Entry) (buf₀ buf : List ℕ) (s : Storing mode es qs buf₀ buf)
-    → length (s .head ++ cat entryBytes qs ++ s .gap) ≡ entriesEnd es + 16 * length es
-front-long mode es qs buf₀ buf s =
-    omega (arith, length-append (s .head ++ cat entryBytes qs) (s .gap), length-append (s .head) (cat entryBytes qs), length-entries qs, s .long, s .left)
-
-pub storing-length : (mode : Mode) (es qs : List Entry) (buf₀ buf : List ℕ) → Storing mode es qs buf₀ buf → imageSize mode es ≤ length buf₀
-    → length buf ≡ length buf₀
-storing-length mode es qs buf₀ buf s fits =
-    let F = s .head ++ cat entryBytes qs ++ s .gap in
-    let L = backWords (placed headSize qs) (backSizeOf mode es) in
-    let T = drop (imageSize mode es) buf₀ in
-    omega
-    (arith, ap length (s .is), length-append (F ++ L) T, length-append F L, front-long mode es qs buf₀ buf s, length-backWords (placed headSize qs) (backSizeOf mode es), length-drop (imageSize mode es) buf₀)
-
--- ---- when all are stored
-
-module _ (mode : Mode) (es : List Entry) (buf₀ buf : List ℕ) (s : Storing mode es es buf₀ buf) where
-  pub area-stored : between buf headSize (entriesEnd es) ≡ cat entryBytes es
-  area-stored =
-      let E = cat entryBytes es in
-      let L = backWords (placed headSize es) (backSizeOf mode es) in
-      let T = drop (imageSize mode es) buf₀ in
-      ap (λ (l : List ℕ). between l headSize (entriesEnd es))
-      (s .is ∙ append-assoc (s .head ++ E ++ s .gap) L T ∙ append-assoc (s .head ++ E) (s .gap) (L ++ T))
-      ∙ between-part (s .head) E (s .gap ++ (L ++ T)) headSize (entriesEnd es) (s .long) (omega (arith, length-entries es))
-
-  pub links-stored : (at : ℕ) → at ≡ entriesEnd es + 16 * length es
-      → between buf at (imageSize mode es) ≡ backWords (placed headSize es) (backSizeOf mode es)
-  links-stored at e =
-      let F = s .head ++ cat entryBytes es ++ s .gap in
-      let L = backWords (placed headSize es) (backSizeOf mode es) in
-      ap (λ (l : List ℕ). between l at (imageSize mode es)) (s .is)
-      ∙ between-part F L (drop (imageSize mode es) buf₀) at (imageSize mode es) (front-long mode es es buf₀ buf s ∙ sym e)
-      (omega (arith, length-backWords (placed headSize es) (backSizeOf mode es)))
-
-  pub behind-kept : drop (imageSize mode es) buf ≡ drop (imageSize mode es) buf₀
-  behind-kept =
-      let F = s .head ++ cat entryBytes es ++ s .gap in
-      let L = backWords (placed headSize es) (backSizeOf mode es) in
-      ap (drop (imageSize mode es)) (s .is)
-      ∙ drop-at (F ++ L) (drop (imageSize mode es) buf₀) (imageSize mode es)
-      (omega (arith, length-append F L, front-long mode es es buf₀ buf s, length-backWords (placed headSize es) (backSizeOf mode es)))
-
--- ---- one entry more
-
--- the link of an entry, behind what stands before the back array at `at`
-linked-at : (mode : Mode) (n at : ℕ) (rs : List Placed) (p : Placed) (front tail : List ℕ) → length front ≡ at → p .entry .id < n
-    → backStored mode (front ++ backWords rs (backIn mode n) ++ tail) at (p .entry .id) (p .at) ≡ front ++ backWords (rs ++ p ∷ []) (backIn mode n) ++ tail
-unfolding backWords range cat
-linked-at Twoway n at rs p front tail e h =
-    let i = p .entry .id in
-    store-in front (backWords rs n) tail (le32 (p .at)) (at + 4 * i) (4 * i) (omega arith) (omega (arith, length-backWords rs n, length-le32 (p .at)))
-    ∙ ap (λ (l : List ℕ). front ++ l ++ tail) (links-more rs p n h)
-linked-at Oneway n at rs p front tail e h = refl
-
-cat-more : (qs : List Entry) (e : Entry) → cat entryBytes (qs ++ e ∷ []) ≡ cat entryBytes qs ++ entryBytes e
-unfolding cat
-cat-more qs e = cat-append entryBytes qs (e ∷ []) ∙ ap (λ (l : List ℕ). cat entryBytes qs ++ l) (append-nil (entryBytes e))
-
-module _ (mode : Mode) (es qs rest : List Entry) (e : Entry) (split : es ≡ qs ++ e ∷ rest) where
-  sizes : entriesSize es ≡ entriesSize qs + (entrySize e + entriesSize rest)
-  unfolding entriesSize
-  sizes = ap entriesSize split ∙ entriesSize-append qs (e ∷ rest)
-
-  id-below : e .id < backSize es
-  id-below =
-      all-middle (λ (x : Entry). x .id < backSize es) qs rest e (ids-below (qs ++ e ∷ rest) (backSize es) (omega (arith, ap backSize split)))
-
-  within : headSize + entriesSize qs + (length (e .name) + 9) ≤ entriesEnd es
-  within = omega (arith, sizes)
-
-  turn : (buf₀ b b1 b2 : List ℕ) (o at : ℕ) → Storing mode es qs buf₀ b → o ≡ headSize + entriesSize qs → at ≡ entriesEnd es + 16 * length es
-      → b1 ≡ sets b o (entryBytes e) → b2 ≡ backStored mode b1 at (e .id) o → Storing mode es (qs ++ e ∷ []) buf₀ b2
-  turn buf₀ b b1 b2 o at s eo ea p q =
-      let v = entryBytes e in
-      let H = s .head in
-      let E = cat entryBytes qs in
-      let n = backSizeOf mode es in
-      let L = backWords (placed headSize qs) n in
-      let T = drop (imageSize mode es) buf₀ in
-      let gap = drop (length v) (s .gap) in
-      let F = H ++ cat entryBytes (qs ++ e ∷ []) ++ gap in
-      let long : length v ≤ length (s .gap) = omega (arith, length-entryBytes e, sizes, s .left) in
-      let short : length gap ≡ length (s .gap) - length v = length-drop (length v) (s .gap) in
-      let here : o ≡ length (H ++ E) = omega (arith, length-append H E, length-entries qs, s .long) in
-      let left : headSize + entriesSize (qs ++ e ∷ []) + length gap ≡ entriesEnd es + 16 * length es =
-      omega (arith, next-at qs e, length-entryBytes e, s .left) in
-      let front : length F ≡ at =
-      omega (arith, length-append (H ++ cat entryBytes (qs ++ e ∷ [])) gap, length-append H (cat entryBytes (qs ++ e ∷ [])), length-entries (qs ++ e ∷ []), s .long) in
-      let one : b1 ≡ F ++ L ++ T =
-      p ∙ ap (λ (l : List ℕ). sets l o v) (s .is ∙ append-assoc (H ++ E ++ s .gap) L T)
-      ∙ stored-front (H ++ E) (s .gap) (L ++ T) v o here long
-      ∙ ap (λ (l : List ℕ). l ++ gap ++ (L ++ T)) (append-assoc H E v ∙ ap (λ (l : List ℕ). H ++ l) (sym (cat-more qs e)))
-      ∙ sym (append-assoc F L T) in
-      record {
-        head = H;
-        gap = gap;
-        long = s .long;
-        left = left;
-        is =
-            q ∙ ap₂ (λ (l : List ℕ) (k : ℕ). backStored mode l at (e .id) k) one eo
-            ∙ linked-at mode (backSize es) at (placed headSize qs) (nextOf qs e) F T front id-below
-            ∙ ap (λ (l : List Placed). F ++ backWords l n ++ T) (sym (placed-more qs e));
-      }
-
--- ---- the loop over names by their ends: before turn i, which stores at o the name that begins at `start`
-
-pub record Along (mode : Mode) (bytes ends ids buf₀ buf : List ℕ) (i o start : ℕ) : Type 0 where
-  pub inside : i ≤ length ends
-  pub start-is : start ≡ beginOf ends i
-  pub here : o ≡ headSize + entriesSize (take i (listEntries bytes ends ids))
-  pub storing : Storing mode (listEntries bytes ends ids) (take i (listEntries bytes ends ids)) buf₀ buf
-
--- room for an entry with a name of n bytes at o in a buffer of this length; the back array at `at` is in the image too
-pub record RoomFor (o at room n : ℕ) : Type 0 where
-  pub entry : o + (n + 9) ≤ room
-  pub small : o + (n + 9) ≤ 4294967295
-  pub link : at ≤ 4294967295
-
-module _ {mode : Mode} {at : ℕ} {bytes ends ids buf₀ : List ℕ} (pre : StoreListPre mode at bytes ends ids buf₀) where
   abbrev es : List Entry
   es = listEntries bytes ends ids
 
-  many : length (names bytes ends) ≤ length ids
-  many = omega (arith, length-names bytes ends, pre .ids-long)
+  number : length es ≡ length ends
+  number = length-listed xs ids (omega (arith, length-names bytes ends, many)) ∙ length-names bytes ends
 
-  all-long : length es ≡ length ends
-  all-long = length-listed (names bytes ends) ids many ∙ length-names bytes ends
+  module _ (i : ℕ) (below : i < length ends) (name : List ℕ) (named : name ≡ nth (names bytes ends) i) where
+    there : getD es i (entryOf [] 0) ≡ entryOf name (getD ids i 0)
+    there =
+        nth-listed xs ids i (entryOf [] 0) (omega (arith, length-names bytes ends, many)) (omega (arith, length-names bytes ends))
+        ∙ ap (λ (x : List ℕ). entryOf x (getD ids i 0)) (sym named)
 
-  begins : at ≡ entriesEnd es + 16 * length es
-  begins = omega (arith, all-long, pre .at-is)
+    pub next-entry : take (i + 1) (listEntries bytes ends ids) ≡ take i (listEntries bytes ends ids) ++ entryOf name (getD ids i 0) ∷ []
+    next-entry = ap (λ (m : ℕ). take m es) (add-one i) ∙ take-suc es i (entryOf [] 0) (omega (arith, number)) ∙ ap (λ (x : Entry). take i es ++ (x ∷ [])) there
 
-  pub along-start : Along mode bytes ends ids buf₀ buf₀ 0 headSize 0
-  unfolding entriesSize
-  along-start =
-      record { inside = omega arith; start-is = refl; here = refl; storing = storing-start mode es buf₀ at begins (pre .within) (pre .cleared) }
+    pub split-there : listEntries bytes ends ids ≡ take i (listEntries bytes ends ids) ++ entryOf name (getD ids i 0) ∷ drop (suc i) (listEntries bytes ends ids)
+    split-there = split-at es i (entryOf [] 0) (omega (arith, number)) ∙ ap (λ (x : Entry). take i es ++ x ∷ drop (suc i) es) there
 
-  module _ {buf : List ℕ} {i o start : ℕ} (k : Along mode bytes ends ids buf₀ buf i o start) where
-    pub along-length : length buf ≡ length buf₀
-    along-length = storing-length mode es (take i es) buf₀ buf (k .storing) (pre .within)
+-- ---- hashes and counts
 
-    pub along-end : length ends ≤ i → StoreListPost mode at bytes ends ids buf₀ buf
-    along-end h =
-        let done = subst (λ (l : List Entry). Storing mode es l buf₀ buf) (take-all i es (omega (arith, all-long))) (k .storing) in
+pub record HashingTo (bytes ends hashes₀ : List ℕ) (i : ℕ) (hashes counts : List ℕ) : Type 0 where
+  pub inside : i ≤ length ends
+  pub hashed : Hashes bytes ends hashes i
+  pub size : length hashes ≡ length hashes₀
+  pub tail : drop (length ends) hashes ≡ drop (length ends) hashes₀
+  pub many : length counts ≡ 256
+  pub tallies : (ids : List ℕ) → length ends ≤ length ids → Tallied counts (take i (listEntries bytes ends ids))
+
+module _ {bytes ends hashes₀ counts₀ : List ℕ} (pre : HashListPre bytes ends hashes₀ counts₀) where
+  pub hashing-start : HashingTo bytes ends hashes₀ 0 hashes₀ counts₀
+  unfolding placed
+  hashing-start =
+      record {
+        inside = omega arith;
+        hashed = λ j h. absurd (omega arith);
+        size = refl;
+        tail = refl;
+        many = ap length (pre .none) ∙ length-replicate {A = ℕ} 256 0;
+        tallies = λ ids m t h. ap (λ (l : List ℕ). getD l t 0) (pre .none) ∙ getD-replicate 256 t 0 0 h ∙ sym (count-nil t);
+      }
+
+  module _ {i : ℕ} {hashes counts : List ℕ} (g : HashingTo bytes ends hashes₀ i hashes counts) where
+    pub hashing-end : length ends ≤ i → HashListPost bytes ends hashes₀ hashes counts
+    hashing-end h =
+        let last : i ≡ length ends = omega (arith, g .inside) in
         record {
-          area = area-stored mode es buf₀ buf done;
-          linked = links-stored mode es buf₀ buf done at begins;
-          behind = behind-kept mode es buf₀ buf done;
-          long = along-length;
+          hashed = subst (Hashes bytes ends hashes) last (g .hashed);
+          rest = g .tail;
+          tallies = λ ids m. subst (Tallied counts) (take-all i (listEntries bytes ends ids) (omega (arith, number bytes ends ids m))) (g .tallies ids m);
         }
 
-    module _ (below : i < length ends) where
-      abbrev name : List ℕ
-      name = between bytes start (getD ends i 0)
+    module _ (below : i < length ends) {name : List ℕ} (named : name ≡ nth (names bytes ends) i) {h : ℕ} (hash : h ≡ hashOrZero name) where
+      its-hash : h ≡ hashOf name
+      its-hash = hash ∙ hash-or-zero-short name (omega (arith, ap length named, pre .short i below))
 
-      abbrev e : Entry
-      e = entryOf (nth (names bytes ends) i) (getD ids i 0)
+      -- one more is a word
+      pub count-word : getD counts (tableOf h) 0 < 4294967295
+      count-word =
+          let qs = take i (listEntries bytes ends ends) in
+          omega
+          (arith, g .tallies ends (omega arith) (tableOf h) (mod-lt h (omega arith)), count-within (tableOf h) (placed headSize qs), length-placed headSize qs, length-take i (listEntries bytes ends ends), pre .number-word)
 
-      -- where the name lies
-      pub name-placed : (start ≤ getD ends i 0) × (getD ends i 0 ≤ length bytes)
-      name-placed = let p = ends-placed (length bytes) ends i (pre .packed) below in (omega (arith, p .rises, k .start-is), p .inside)
+      raised : (qs : List Entry) (e : Entry) → h ≡ hashOf (e .name) → Tallied counts qs → Tallied (raisedCounts counts h) (qs ++ e ∷ [])
+      unfolding raisedCounts
+      raised qs e is told t k =
+          elim (ℕ-discrete t (tableOf h)) [
+            | yes z ↦
+                ap (getD (set counts (tableOf h) (getD counts (tableOf h) 0 + 1)) t) refl
+                ∙ rw z (getD-set-same counts (tableOf h) (getD counts (tableOf h) 0 + 1) 0 (omega (arith, g .many, mod-lt h {m = 256} (omega arith))))
+                ∙ ap (λ (x : ℕ). x + 1) (told (tableOf h) (mod-lt h (omega arith)))
+                ∙ sym (ap (λ (u : ℕ). count u (placed headSize (qs ++ e ∷ []))) z ∙ count-same (tableOf h) headSize qs e (ap tableOf (sym is)))
+            | no z ↦
+                getD-set-other counts (tableOf h) t (getD counts (tableOf h) 0 + 1) 0 z
+                ∙ told t k
+                ∙ sym (count-other t headSize qs e (λ y. z (sym y ∙ ap tableOf (sym is))))
+          ]
 
-      named : name ≡ nth (names bytes ends) i
-      named = ap (λ (s : ℕ). between bytes s (getD ends i 0)) (k .start-is) ∙ sym (nth-name bytes ends i below)
-
-      there : getD es i (entryOf [] 0) ≡ e
-      there = nth-listed (names bytes ends) ids i (entryOf [] 0) many (omega (arith, length-names bytes ends))
-
-      split : es ≡ take i es ++ e ∷ drop (suc i) es
-      split = split-at es i (entryOf [] 0) (omega (arith, all-long)) ∙ ap (λ (x : Entry). take i es ++ x ∷ drop (suc i) es) there
-
-      more : take (i + 1) es ≡ take i es ++ e ∷ []
-      more = ap (λ (m : ℕ). take m es) (add-one i) ∙ take-suc es i (entryOf [] 0) (omega (arith, all-long)) ∙ ap (λ (x : Entry). take i es ++ (x ∷ [])) there
-
-      pub along-room : RoomFor o at (length buf) (length (between bytes start (getD ends i 0)))
-      along-room =
-          let w = within mode es (take i es) (drop (suc i) es) e split in
-          let n = ap length named in
-          let h = k .here in
-          let same = along-length in
-          let g = all-long in
-          let fits = pre .within in
-          let small = pre .small in
-          let at-is = pre .at-is in
-          record { entry = omega arith; small = omega arith; link = omega arith }
-
-      pub along-turn : {b1 b2 : List ℕ} → b1 ≡ sets buf o (entryBytes (entryOf (between bytes start (getD ends i 0)) (getD ids i 0)))
-          → b2 ≡ backStored mode b1 at (getD ids i 0) o
-          → Along mode bytes ends ids buf₀ b2 (i + 1) (o + (length (between bytes start (getD ends i 0)) + 9)) (getD ends i 0)
-      along-turn {b1} {b2} p q =
+      pub hashing-step : length ends ≤ length hashes₀ → {counts′ : List ℕ} → counts′ ≡ raisedCounts counts h
+          → HashingTo bytes ends hashes₀ (i + 1) (set hashes i h) counts′
+      unfolding raisedCounts
+      hashing-step long {counts′} more =
           record {
             inside = omega arith;
-            start-is = sym (begin-next ends i);
-            here =
-                ap₂ (λ (m : ℕ) (l : List ℕ). m + (length l + 9)) (k .here) named ∙ next-offset (take i es) e (take (i + 1) es) more;
-            storing =
-                subst (λ (l : List Entry). Storing mode es l buf₀ b2) (sym more)
-                (turn mode es (take i es) (drop (suc i) es) e split buf₀ buf b1 b2 o at (k .storing) (k .here) begins
-                (p ∙ ap (λ (l : List ℕ). sets buf o (entryBytes (entryOf l (getD ids i 0)))) named) q);
+            hashed = λ j b. elim (ℕ-discrete j i) [
+              | yes z ↦ ap (λ (k : ℕ). getD (set hashes i h) k 0) z ∙ getD-set-same hashes i h 0 (omega (arith, g .size)) ∙ its-hash ∙ ap hashOf named
+                  ∙ ap (λ (k : ℕ). hashOf (nth (names bytes ends) k)) (sym z)
+              | no z ↦ getD-set-other hashes i j h 0 z ∙ g .hashed j (omega arith)
+            ];
+            size = length-set hashes i h ∙ g .size;
+            tail = drop-set-lt (length ends) hashes i h below ∙ g .tail;
+            many = ap length more ∙ length-set counts (tableOf h) (getD counts (tableOf h) 0 + 1) ∙ g .many;
+            tallies = λ ids m. subst (Tallied counts′) (sym (next-entry bytes ends ids m i below name named))
+                (subst (λ (c : List ℕ). Tallied c (take i (listEntries bytes ends ids) ++ entryOf name (getD ids i 0) ∷ [])) (sym more)
+                (raised (take i (listEntries bytes ends ids)) (entryOf name (getD ids i 0)) its-hash (g .tallies ids m)));
           }
-        where
-          next-offset : (qs : List Entry) (x : Entry) (rs : List Entry) → rs ≡ qs ++ x ∷ [] → headSize + entriesSize qs + (length (x .name) + 9) ≡ headSize + entriesSize rs
-          next-offset qs x rs f = omega (arith, next-at qs x, ap entriesSize f)
+
+-- ---- entries stored in the place that they will have, and partitioned
+
+-- head and rows of the image of es, the first entries, and what stood behind them
+unfoldable pub frontWith : Mode → List Entry → List ℕ → List Entry → List ℕ
+frontWith mode es E qs = headWords mode es ++ tableRows (entriesEnd es) (placedIn es) ++ (cat entryBytes qs ++ drop (entriesSize qs) E)
+
+-- before the turn of the entry behind qs
+pub record StoringTo (mode : Mode) (es : List Entry) (E X tail : List ℕ) (qs : List Entry) (buf places : List ℕ) (at : ℕ) : Type 0 where
+  pub is : buf ≡ halfway mode (frontWith mode es E qs) es X qs tail
+  pub next : Places (entriesEnd es) (placedIn es) (placedIn qs) places
+  pub offset : at ≡ headSize + entriesSize qs
+
+module _ (mode : Mode) (es : List Entry) (E X tail : List ℕ) (room : length E ≡ entriesSize es) (long : length X ≡ 16 * length (placedIn es)) where
+  abbrev HR : List ℕ
+  HR = headWords mode es ++ tableRows (entriesEnd es) (placedIn es)
+
+  length-HR : length HR ≡ headSize
+  length-HR =
+      length-append (headWords mode es) (tableRows (entriesEnd es) (placedIn es))
+      ∙ ap₂ _+_ (length-headWords mode es) (length-tableRows (entriesEnd es) (placedIn es))
+
+  front-long : (qs rest : List Entry) → es ≡ qs ++ rest → length (frontWith mode es E qs) ≡ entriesEnd es
+  unfolding frontWith
+  front-long qs rest split =
+      let C = cat entryBytes qs in
+      let D = drop (entriesSize qs) E in
+      let sizes : entriesSize es ≡ entriesSize qs + entriesSize rest = ap entriesSize split ∙ entriesSize-append qs rest in
+      omega (arith, length-append HR (C ++ D), length-append C D, length-HR, length-entries qs, length-drop (entriesSize qs) E, room, sizes)
+
+  -- none is stored
+  pub storing-first : {buf : List ℕ} → buf ≡ HR ++ E ++ X ++ backWords [] (backSizeOf mode es) ++ tail → (counts : List ℕ) → Counts counts (placedIn es)
+      → imageSize mode es ≤ 4294967295 → StoringTo mode es E X tail [] buf (sets (replicate 256 0) 0 (tableOffsetsFrom counts (entriesEnd es) 0 256)) 2072
+  unfolding frontWith entriesSize cat
+  storing-first e counts tallies fits =
+      record {
+        is = e ∙ none-parted mode es X tail counts long fits tallies (HR ++ E);
+        next = places-first mode es X tail counts long fits tallies;
+        offset = refl;
+      }
+
+  -- all are stored
+  front-whole : frontWith mode es E es ≡ upToEntries mode es
+  unfolding frontWith upToEntries
+  front-whole =
+      ap (λ (l : List ℕ). HR ++ (cat entryBytes es ++ l)) (drop-of-length-le E {i = entriesSize es} (omega (arith, room)))
+      ∙ ap (λ (l : List ℕ). HR ++ l) (append-nil (cat entryBytes es))
+
+  pub storing-last : {buf places : List ℕ} {at : ℕ} → StoringTo mode es E X tail es buf places at → buf ≡ filledTo mode es X 0 tail
+  storing-last g = g .is ∙ ap (λ (F : List ℕ). halfway mode F es X es tail) front-whole ∙ filled-first mode es X tail long
+
+  module _ (qs rest : List Entry) (e : Entry) (split : es ≡ qs ++ e ∷ rest) (fits : imageSize mode es ≤ 4294967295)
+      (ids : All (λ (x : Entry). x .id < 2 ^ 32) es) where
+    abbrev at : ℕ
+    at = headSize + entriesSize qs
+
+    abbrev b : List ℕ
+    b = entryBytes e
+
+    fits-there : entriesSize qs + length b ≤ length E
+    unfolding entriesSize
+    fits-there =
+        let sizes : entriesSize es ≡ entriesSize qs + entriesSize (e ∷ rest) = ap entriesSize split ∙ entriesSize-append qs (e ∷ rest) in
+        omega (arith, room, sizes, length-entryBytes e)
+
+    front-next : sets (frontWith mode es E qs) at b ≡ frontWith mode es E (qs ++ e ∷ [])
+    unfolding frontWith entriesSize cat
+    front-next =
+        let C = cat entryBytes qs in
+        let D = drop (entriesSize qs) E in
+        let more : entriesSize qs + (0 + length b) ≡ entriesSize (qs ++ e ∷ []) = omega (arith, entriesSize-append qs (e ∷ []), length-entryBytes e) in
+        sets-right-at b HR (C ++ D) (entriesSize qs) at (omega (arith, length-HR))
+        ∙ ap (λ (l : List ℕ). HR ++ l)
+        (sets-right-at b C D 0 (entriesSize qs) (omega (arith, length-entries qs))
+        ∙ ap (λ (l : List ℕ). C ++ l) (sets-eq b D 0 (omega (arith, length-drop (entriesSize qs) E, fits-there)))
+        ∙ ap (λ (l : List ℕ). C ++ (b ++ l)) (drop-drop (0 + length b) (entriesSize qs) E ∙ ap (λ (k : ℕ). drop k E) more)
+        ∙ sym (append-assoc C b (drop (entriesSize (qs ++ e ∷ [])) E))
+        ∙ ap (λ (l : List ℕ). l ++ drop (entriesSize (qs ++ e ∷ [])) E)
+        (ap (λ (l : List ℕ). C ++ l) (sym (append-nil b)) ∙ sym (cat-append entryBytes qs (e ∷ []))))
+
+    -- an entry lies before the tables
+    stored : (F : List ℕ) → at + length b ≤ length F → sets (halfway mode F es X qs tail) at b ≡ halfway mode (sets F at b) es X qs tail
+    unfolding halfway
+    stored F h =
+        let R = cat (areaWith (placedIn es) X (placedIn qs)) (range 0 256) in
+        let L = backWords (placedIn qs) (backSizeOf mode es) in
+        ap (λ (l : List ℕ). sets l at b) (append-assoc (F ++ R) L tail ∙ append-assoc F R (L ++ tail))
+        ∙ sets-left b F (R ++ (L ++ tail)) at h
+        ∙ sym (append-assoc (sets F at b ++ R) L tail ∙ append-assoc (sets F at b) R (L ++ tail))
+
+    pub storing-step : {buf places : List ℕ} {k : ℕ} → StoringTo mode es E X tail qs buf places k → {b1 b2 places′ : List ℕ} → b1 ≡ sets buf k (entryBytes e)
+        → {l id h : ℕ} → l ≡ backOffset mode es → id ≡ e .id → h ≡ hashOf (e .name) → EntryPartitioned mode l k id h places b1 places′ b2
+        → StoringTo mode es E X tail (qs ++ e ∷ []) b2 places′ (k + (9 + length (e .name)))
+    unfolding entriesSize
+    storing-step {buf} {places} {k} g {b1} {b2} e1 {l} {id} {h} el ei eh done =
+        let F = frontWith mode es E (qs ++ e ∷ []) in
+        let o = backOffset mode es in
+        let rest-there : es ≡ (qs ++ e ∷ []) ++ rest = split ∙ sym (append-assoc qs (e ∷ []) rest) in
+        let front = front-long (qs ++ e ∷ []) rest rest-there in
+        let b1-is : b1 ≡ halfway mode F es X qs tail =
+        e1
+        ∙ ap₂ (λ (m : List ℕ) (j : ℕ). sets m j b) (g .is) (g .offset)
+        ∙ stored (frontWith mode es E qs) (omega (arith, front-long qs (e ∷ rest) split, fits-there, room))
+        ∙ ap (λ (m : List ℕ). halfway mode m es X qs tail) front-next in
+        record {
+          is =
+              done .stored
+              ∙ ap (λ (m : List ℕ). partitioned mode l places m k id h) b1-is
+              ∙ ap₂ (λ (u j : ℕ). partitioned mode u places (halfway mode F es X qs tail) j id h) el (g .offset)
+              ∙ ap₂ (λ (u v : ℕ). partitioned mode o places (halfway mode F es X qs tail) at u v) ei eh
+              ∙ half-step mode F es X tail front long qs rest e split fits ids places (g .next);
+          next = subst (Places (entriesEnd es) (placedIn es) (placedIn (qs ++ e ∷ []))) (sym (done .moved ∙ ap (advanced places) eh))
+              (half-places mode F es X tail front long qs rest e split fits ids places (g .next));
+          offset = omega (arith, g .offset, entriesSize-append qs (e ∷ []));
+        }

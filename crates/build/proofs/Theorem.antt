@@ -1,35 +1,23 @@
 -- What is proved of a whole list. Assumes nothing.
-use Prim.Native.Nat.{ℕ}
-use mathlib.Core.Path.{_≡_, refl, sym, ap}
-use mathlib.Core.Bool.{cond}
-use mathlib.Core.List.{List}
-use lib.Dec.{ltb}
-use lib.ListN.{length, take}
-use Rattle.image.specs.declared.Mode.{Mode}
-use Rattle.writer.specs.declared.Repeats.{Repeats}
-use Rattle.writer.specs.Close.{closedSize, afterClose}
-use Rattle.lists.specs.Demand3.{afterList, imageOf}
+use mathlib.Core.Path.{_≡_, refl, sym, ap, _∙_}
+use lib.ListN.{length}
 use Rattle.lists.proofs.Theorem.{one-list, calls-answered}
-use Rattle.build.specs.Build.{listed, buildRefusal, madeOf, bufferAfter}
+use Rattle.lists.proofs.Appended.{sizeOf-is}
+use Rattle.lists.specs.Calls.{puts}
+use Rattle.build.specs.Build.{callsOf, listed}
+use Rattle.build.specs.Needs.{atMost}
 use Rattle.build.specs.theorems.Builds.{BuildHolds}
+use Rattle.build.proofs.Needed.{needs-hold}
 use Rattle.build.proofs.Whole.{refused-some, refused-build}
-
-imaged : (mode : Mode) (repeats : Repeats) (buffer bytes ends ids : List ℕ) (places : ℕ) → buildRefusal bytes ends (length ids) places (length buffer) ≡ 0
-    → take (madeOf mode repeats buffer (listed bytes ends ids) .size) (bufferAfter mode repeats buffer bytes ends ids places)
-    ≡ imageOf mode repeats buffer (listed bytes ends ids)
-unfolding madeOf bufferAfter imageOf
-imaged mode repeats buffer bytes ends ids places ok =
-    let s = afterList mode repeats buffer (listed bytes ends ids) in
-    ap (λ (k : ℕ). take (closedSize s) (cond (ltb 0 k) buffer (afterClose s .buffer))) ok
 
 pub build-holds : BuildHolds
 build-holds =
     record {
-      imaged = imaged;
       demand3 = λ repeats buffer bytes ends ids room. one-list repeats buffer (listed bytes ends ids) room;
       answered = λ mode repeats buffer bytes ends ids room word. calls-answered mode repeats buffer (listed bytes ends ids) room word;
-      refused-kept = λ mode repeats buffer bytes ends ids places k e.
+      refused-kept = λ mode repeats buffer bytes ends ids places bufferThen k e left.
           let some = refused-some mode repeats buffer bytes ends ids (length places) k e in
           let out = refused-build mode repeats buffer bytes ends ids places _ refl some in
-          (sym (out .1), sym (out .2));
+          (left .refused some, sym (out .2));
+      kept-from = λ mode xs ids same. needs-hold .exact mode xs ids same ∙ ap atMost (sizeOf-is mode (puts (callsOf xs ids)));
     }

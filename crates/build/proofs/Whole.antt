@@ -16,7 +16,7 @@ use Rattle.writer.specs.State.{State, fits, finishedSize, tooLarge}
 use Rattle.writer.specs.Close.{closeRefusal, closedSize, consistent, afterClose}
 use Rattle.lists.specs.Demand3.{answersOf, afterList, acceptedPuts}
 use Rattle.build.specs.declared.Made.{Made}
-use Rattle.build.specs.Build.{listed, buildRefusal, madeOf, building, bufferAfter, answersAfter}
+use Rattle.build.specs.Build.{listed, buildRefusal, madeOf, building, BufferBuilt, answersAfter}
 
 -- ---- the refusals, in their order
 
@@ -60,13 +60,13 @@ module _ (mode : Mode) (repeats : Repeats) (buffer bytes ends ids places : List 
   -- a refusal writes nothing
   pub refused-build : (k : ℕ) → buildRefusal bytes ends (length ids) (length places) (length buffer) ≡ k → 0 < k
       → (refusal k ≡ building mode repeats buffer bytes ends ids (length places))
-      × (buffer ≡ bufferAfter mode repeats buffer bytes ends ids (length places))
+      × (BufferBuilt mode repeats buffer bytes ends ids (length places) buffer)
       × (places ≡ answersAfter mode repeats buffer bytes ends ids places)
-  unfolding building bufferAfter answersAfter
+  unfolding building answersAfter
   refused-build k e h =
       let t : ltb 0 (buildRefusal bytes ends (length ids) (length places) (length buffer)) ≡ true = ap (ltb 0) e ∙ lt-ltb 0 k h in (
         sym (ap₂ (λ (b : Bool) (m : ℕ). cond b (refusal m) (value (madeOf mode repeats buffer (listed bytes ends ids)))) t e),
-        sym (ap (λ (b : Bool). cond b buffer (afterClose (afterList mode repeats buffer (listed bytes ends ids)) .buffer)) t),
+        record { refused = λ l. refl; imaged = λ z. absurd (omega (arith, e, h, z)); behind = λ z. refl },
         sym (ap (λ (b : Bool). cond b places (answersOf mode repeats buffer (listed bytes ends ids) ++ drop (length ends) places)) t),
       )
 
@@ -78,20 +78,9 @@ module _ (mode : Mode) (repeats : Repeats) (buffer bytes ends ids places : List 
     unfolding answersAfter
     told-all rs e = e ∙ sym (ap (λ (b : Bool). cond b places (answersOf mode repeats buffer (listed bytes ends ids) ++ drop (length ends) places)) none)
 
-    -- of the places only those behind the names count
-    pub told-same : (places′ : List ℕ) → length places ≡ length places′ → drop (length ends) places ≡ drop (length ends) places′
-        → answersAfter mode repeats buffer bytes ends ids places ≡ answersAfter mode repeats buffer bytes ends ids places′
+    pub answers-are : answersAfter mode repeats buffer bytes ends ids places ≡ answersOf mode repeats buffer (listed bytes ends ids) ++ drop (length ends) places
     unfolding answersAfter
-    told-same places′ e f =
-        let told : List ℕ = answersOf mode repeats buffer (listed bytes ends ids) in
-        ap (λ (b : Bool). cond b places (told ++ drop (length ends) places)) none
-        ∙ ap (λ (l : List ℕ). told ++ l) f
-        ∙ sym (ap (λ (b : Bool). cond b places′ (told ++ drop (length ends) places′)) (ap (λ (k : ℕ). ltb 0 (buildRefusal bytes ends (length ids) k (length buffer))) (sym e) ∙ none))
-
-    pub left-closed : (l : List ℕ) → l ≡ afterClose (afterList mode repeats buffer (listed bytes ends ids)) .buffer
-        → l ≡ bufferAfter mode repeats buffer bytes ends ids (length places)
-    unfolding bufferAfter
-    left-closed l e = e ∙ sym (ap (λ (b : Bool). cond b buffer (afterClose (afterList mode repeats buffer (listed bytes ends ids)) .buffer)) none)
+    answers-are = ap (λ (b : Bool). cond b places (answersOf mode repeats buffer (listed bytes ends ids) ++ drop (length ends) places)) none
 
     pub built-made : (m : Made) → m .size ≡ closedSize (afterList mode repeats buffer (listed bytes ends ids))
         → m .accepted ≡ length (acceptedPuts mode repeats buffer (listed bytes ends ids)) → value m ≡ building mode repeats buffer bytes ends ids (length places)

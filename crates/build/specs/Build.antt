@@ -1,19 +1,20 @@
 -- A whole list in one call: an added call, by the rules of 01, "Whole lists". It is begin, the puts in order and one
 -- close.
-use Prim.Native.Nat.{ℕ}
+use Prim.Native.Nat.{ℕ, _<_}
+use mathlib.Core.Path.{_≡_}
 use mathlib.Core.Bool.{cond, _||_}
 use mathlib.Core.List.{List, [], _∷_, _++_}
-use lib.ListN.{length, drop}
+use lib.ListN.{length, take, drop}
 use lib.Dec.{ltb}
 use Rattle.jhash.specs.Outcome.{Outcome, value, refusal}
 use Rattle.image.specs.declared.Mode.{Mode}
-use Rattle.image.specs.Image.{headSize}
+use Rattle.image.specs.Image.{headSize, imageSize}
 use Rattle.packed.specs.Names.{names, invalidEnds}
 use Rattle.writer.specs.declared.Repeats.{Repeats}
 use Rattle.writer.specs.Put.{entryOf}
-use Rattle.writer.specs.Close.{closedSize, afterClose}
-use Rattle.lists.specs.Calls.{Call, put}
-use Rattle.lists.specs.Demand3.{answersOf, afterList, acceptedPuts}
+use Rattle.writer.specs.Close.{closedSize}
+use Rattle.lists.specs.Calls.{Call, put, puts}
+use Rattle.lists.specs.Demand3.{answersOf, afterList, acceptedPuts, imageOf}
 use Rattle.build.specs.declared.Made.{Made}
 use Rattle.build.specs.declared.Built.{Built}
 use Rattle.build.specs.declared.Built.the-variants.{Image, Refused}
@@ -50,11 +51,17 @@ building mode repeats buffer bytes ends ids places =
     (refusal (buildRefusal bytes ends (length ids) places (length buffer)))
     (value (madeOf mode repeats buffer (listed bytes ends ids)))
 
--- the buffer afterwards: as one close after the list leaves it
-unfoldable pub bufferAfter : Mode → Repeats → List ℕ → List ℕ → List ℕ → List ℕ → ℕ → List ℕ
-bufferAfter mode repeats buffer bytes ends ids places =
-    cond (ltb 0 (buildRefusal bytes ends (length ids) places (length buffer))) buffer
-    (afterClose (afterList mode repeats buffer (listed bytes ends ids)) .buffer)
+-- the buffer afterwards. A refused call writes nothing. Otherwise the first bytes are the image of one close after the
+-- list, and those from the size of an image of all names on are as they were
+pub record BufferBuilt (mode : Mode) (repeats : Repeats) (buffer bytes ends ids : List ℕ) (places : ℕ)
+    (bufferThen : List ℕ) : Type 0 where
+  pub refused : 0 < buildRefusal bytes ends (length ids) places (length buffer) → bufferThen ≡ buffer
+  pub imaged : buildRefusal bytes ends (length ids) places (length buffer) ≡ 0
+      → take (madeOf mode repeats buffer (listed bytes ends ids) .size) bufferThen
+      ≡ imageOf mode repeats buffer (listed bytes ends ids)
+  pub behind : buildRefusal bytes ends (length ids) places (length buffer) ≡ 0
+      → drop (imageSize mode (puts (listed bytes ends ids))) bufferThen
+      ≡ drop (imageSize mode (puts (listed bytes ends ids))) buffer
 
 -- the answers afterwards: the number of each put's refusal; places behind keep their content
 unfoldable pub answersAfter : Mode → Repeats → List ℕ → List ℕ → List ℕ → List ℕ → List ℕ

@@ -23,7 +23,7 @@ bytesNeeded mode size ids = atMost (headSize + size + 25 * length ids + 4 * back
 
 -- the words of scratch memory for each name
 abbrev pub wordsEach : ℕ
-wordsEach = 6
+wordsEach = 5
 
 unfoldable pub needed : Mode → ℕ → List ℕ → Needs
 needed mode size ids = record { bytes = bytesNeeded mode size ids; words = atMost (wordsEach * length ids) }

@@ -7,11 +7,10 @@ ghost use Rattle.build.specs.steps.Capacity.{Capacity};
 use super::needs::for_list;
 use image::Mode;
 
-// Has the buffer room for an image of all names, and the scratch memory the words for its tables? False for an empty
-// list.
-pub(crate) fn has_capacity(mode: Mode, ends: &[u64], ids: &[u32], room: usize, words: usize) -> bool
+// Has the buffer room for an image of all names? False for an empty list.
+pub(crate) fn has_capacity(mode: Mode, ends: &[u64], ids: &[u32], room: usize) -> bool
     requires { ⌜ length (now ends) ≤ length (now ids) ⌝ }
-    ensures { λ r. ⌜ (r ≡ true → Capacity mode (now (ends .entry)) (now (ids .entry)) room words) ⌝ }
+    ensures { λ r. ⌜ (r ≡ true → Capacity mode (now (ends .entry)) (now (ids .entry)) room) ⌝ }
 {
     let n = ends.len();
     if n == 0 {
@@ -22,9 +21,6 @@ pub(crate) fn has_capacity(mode: Mode, ends: &[u64], ids: &[u32], room: usize, w
         return false;
     }
     if 4294967295 < needs.bytes {
-        return false;
-    }
-    if (words as u64) < needs.words {
         return false;
     }
     true

@@ -1,5 +1,5 @@
 // What a list needs: the bytes of a buffer in which no put is refused for room, and the words of scratch memory for the
-// bulk path.
+// index of its names.
 ghost use mathlib.Core.Path.{_≡_};
 ghost use Prim.Native.Nat.{_+_, _*_, _<_, min, max};
 ghost use lib.ListN.{length};
@@ -9,7 +9,7 @@ use image::HEAD_SIZE_64;
 use image::Mode;
 
 // The words of scratch memory for each name; `wordsEach` is the same number.
-const WORDS_EACH: u64 = 6;
+const WORDS_EACH: u64 = 5;
 
 // How many bytes, and how many words of scratch memory.
 pub struct Needs {

@@ -1,68 +1,78 @@
-// The image of a list, all of whose names are put: its entries stored in one pass, each with its link in the back
-// array, and head, rows and tables around them.
-ghost use Rattle.build.specs.steps.Stores.{StoreListPre, StoreListPost, WriteListPre, WriteListPost};
+// The image of all names, written straight into the buffer.
+ghost use Rattle.build.specs.steps.Stores.{WriteListPre, ListWritten};
 use super::needs::back_of;
 use image::HEAD_SIZE;
 use image::HEAD_SIZE_64;
 use image::Mode;
-use serialize::insert::store_back;
-use writer::entry::store;
+use packed::nth_name;
+use serialize::partition::partition_entry;
+use serialize::size::back_in;
+use serialize::size::back_offset;
+use serialize::size::finished_size;
+use serialize::tables::fill_all;
 
-// The entries of all names one behind the other from 2,072 on, and in a two-way image the offset of each under its id
-// in the back array, which begins at `at` and was cleared.
-pub(crate) fn store_list(
-    mode: Mode,
-    at: usize,
-    bytes: &[u8],
-    ends: &[u64],
-    ids: &[u32],
-    buf: &mut [u8],
-)
-    requires { ⌜ StoreListPre mode at (now bytes) (now ends) (now ids) (now buf) ⌝ }
-    ensures { λ _. ⌜
-        StoreListPost mode at (now (bytes .entry)) (now (ends .entry)) (now (ids .entry)) (now (buf .entry))
-        (now (buf .exit))
-        ⌝ }
-{
-    let mut o = HEAD_SIZE;
-    let mut start = 0;
-    let mut i = 0;
-    while i < ends.len() {
-        let end = ends[i] as usize;
-        let name = &bytes[start..end];
-        let id = ids[i];
-        store(&mut *buf, o, name, id);
-        store_back(mode, &mut *buf, at, id, o as u32);
-        o += name.len() + 9;
-        start = end;
-        i += 1;
-    }
+// The size of the image, and whether two entries of equal name were met.
+pub(crate) struct WrittenList {
+    pub size: u32,
+    pub met: bool,
 }
 
-// The image of all names, with these table counts and the words of its tables: entries and back array, then head,
-// rows and tables around them. Gives its size.
+// Writes the image of all names in a buffer that has room for it: the front, then each entry with its pair of hash and
+// offset where its table will stand and its offset in the back array, then the tables.
 pub(crate) fn write_list(
     mode: Mode,
+    counts: &[u32; 256],
+    hashes: &[u32],
     buf: &mut [u8],
     bytes: &[u8],
     ends: &[u64],
     ids: &[u32],
-    counts: &[u32; 256],
-    words: &[u32],
-) -> u32
-    requires { ⌜ WriteListPre mode (now buf) (now bytes) (now ends) (now ids) (now counts) (now words) ⌝ }
+    scratch: &mut [u32],
+) -> WrittenList
+    requires { ⌜ WriteListPre mode (now counts) (now hashes) (now buf) (now bytes) (now ends) (now ids) ⌝ }
     ensures { λ r. ⌜
-        WriteListPost mode (now (buf .entry)) (now (bytes .entry)) (now (ends .entry)) (now (ids .entry)) r
-        (now (buf .exit))
+        ListWritten mode (now (buf .entry)) (now (bytes .entry)) (now (ends .entry)) (now (ids .entry)) (r .size)
+        (r .met) (now (buf .exit))
         ⌝ }
 {
     let n = ends.len();
-    let end = HEAD_SIZE_64 + ends[n - 1] + 9 * (n as u64);
-    let back = serialize::size::back_in(mode, back_of(&ids[..n]));
-    let at = end + 16 * (n as u64);
-    let size = at + 4 * back;
-    serialize::head::clear_bytes(&mut *buf, at as usize, size as usize);
-    store_list(mode, at as usize, bytes, ends, ids, &mut *buf);
-    serialize::write_image_with(mode, end, n as u32, back as u32, counts, words, &mut *buf);
-    size as u32
+    let entries = n as u32;
+    let end = HEAD_SIZE_64 + 9 * (n as u64) + ends[n - 1];
+    let back = back_in(mode, back_of(&ids[..n])) as u32;
+    let size = finished_size(mode, end, entries, back);
+    let back_at = back_offset(mode, end, entries, back) as usize;
+    let mut places = [0; 256];
+    serialize::begin_image(mode, end, entries, back, counts, &mut *buf, &mut places);
+    let mut at = HEAD_SIZE;
+    let mut i = 0;
+    while i < n {
+        let name = nth_name(bytes, ends, i);
+        let id = ids[i];
+        writer::entry::store(&mut *buf, at, name, id);
+        partition_entry(
+            mode,
+            back_at,
+            &mut *buf,
+            &mut places,
+            at as u32,
+            id,
+            hashes[i],
+        );
+        at += 9 + name.len();
+        i += 1;
+    }
+    let met = fill_all(
+        mode,
+        back_at,
+        &mut *buf,
+        counts,
+        end as usize,
+        entries,
+        size as usize,
+        &mut *scratch,
+    );
+    WrittenList {
+        size: size as u32,
+        met,
+    }
 }

@@ -7,7 +7,7 @@ use writer::numbers::repeats_of;
 ghost use mathlib.Core.Path.{_≡_};
 ghost use Prim.Native.Nat.{_<_};
 ghost use lib.ListN.{length};
-ghost use Rattle.build_c.specs.Building.{buildAnswer, bufferBuilt, answersBuilt};
+ghost use Rattle.build_c.specs.Building.{buildAnswer, BufferLeft, answersBuilt};
 ghost use Rattle.build_c.specs.Needs.{needsAnswer};
 
 // The refusal's number, 0 when accepted; the image's size and the number of accepted puts, zeros when refused.
@@ -36,8 +36,8 @@ pub extern "C" fn cqdb_build_parts(
         (length (now (refusals .entry)))
         ⌝ }
     ensures leaves { λ _. ⌜
-        now (buf .exit) ≡ bufferBuilt mode repeats (now (buf .entry)) (now (names .entry)) (now (ends .entry))
-        (now (ids .entry)) (length (now (refusals .entry)))
+        BufferLeft mode repeats (now (buf .entry)) (now (names .entry)) (now (ends .entry)) (now (ids .entry))
+        (length (now (refusals .entry))) (now (buf .exit))
         ⌝ }
     ensures answers { λ _. ⌜
         now (refusals .exit) ≡ answersBuilt mode repeats (now (buf .entry)) (now (names .entry))

@@ -1,5 +1,5 @@
 // Packed names: end to end in one buffer, with the list of their end offsets. The calls that take many names at once
-// take them in this form: rounds (`batch`) and whole lists (`bulk_tables`, `build`).
+// take them in this form: rounds (`batch`) and whole lists (`build`).
 ghost use mathlib.Core.Path.{_≡_};
 ghost use mathlib.Core.List.{[]};
 ghost use Prim.Native.Nat.{_<_};

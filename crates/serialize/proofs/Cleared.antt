@@ -1,4 +1,4 @@
--- Head and rows written, tables and back array cleared: the image before any entry is inserted. Assumes nothing.
+-- Head and rows written, the back array cleared, or the tables too: the image before any entry is partitioned or inserted. Assumes nothing.
 use Prim.Native.Nat.{ℕ, _+_, _-_, _*_, _≤_}
 use native.Mathlib.Omega.{arith}
 use mathlib.Core.Path.{_≡_, refl, sym, ap, _∙_}
@@ -7,19 +7,20 @@ use mathlib.Core.List.{List, [], _++_, append-assoc, append-nil}
 use lib.ListN.{length, take, drop, replicate, length-append, length-drop, length-replicate, take-append-drop}
 use lib.Seq.{sets, sets-eq, take-add, drop-drop}
 use lib.Dec.{eqb}
-use Rattle.image.specs.Bytes.{cat}
-use Rattle.image.specs.Image.{Entry, headSize, entryBytes, placed, flagWord, backIn, backSize, backSizeOf, entriesEnd, imageSize}
+use Rattle.image.specs.Image.{Entry, headSize, placed, flagWord, backIn, backSize, backSizeOf, entriesEnd, imageSize}
 use Rattle.image.specs.Image.{backOffset, headBytes, headWords, tableRows, backWords}
 use Rattle.image.specs.declared.Mode.{Mode}
 use Rattle.image.specs.declared.Mode.the-variants.{Twoway, Oneway}
 use Rattle.image.proofs.Sizes.{length-placed, length-headWords, length-tableRows, length-backWords, backIn-twice}
-use Rattle.image.proofs.Stores.{sets-then, sets-right-at}
+use Rattle.image.proofs.Stores.{sets-then, sets-right-at, sets-whole}
+use Rattle.image.proofs.Between.{length-between}
 use Rattle.image.proofs.Parts.{placedIn}
 use Rattle.serialize.specs.Record.{finishedOf}
 use Rattle.image.specs.Stored.{between}
-use Rattle.serialize.specs.steps.Written.{rowsFrom, backOffsetOf, headed, zeroed}
+use Rattle.serialize.specs.steps.Written.{rowsFrom, backOffsetOf, headed, zeroed, begunImage}
 use Rattle.serialize.proofs.HeadRows.{Counts, rows-image}
-use Rattle.serialize.proofs.PartialImage.{tablesWith, upToEntries, partial, zeros-both, zeros-links}
+use Rattle.serialize.proofs.PartialImage.{tablesWith, upToEntries, length-upToEntries, partial, zeros-both, zeros-links}
+use Rattle.serialize.proofs.InsertStep.{store-in}
 
 -- ---- three stores: head, rows, and what follows the entries
 
@@ -58,28 +59,27 @@ between-parts buf a b c h k =
 
 -- ---- numbers that say what the entries are
 
-pub record Describes (mode : Mode) (end entries back : ℕ) (counts buf : List ℕ) (es : List Entry) : Type 0 where
+pub record Numbers (mode : Mode) (end entries back : ℕ) (counts buf : List ℕ) (es : List Entry) : Type 0 where
   pub ends : end ≡ entriesEnd es
   pub number : entries ≡ length es
   pub backs : back ≡ backSizeOf mode es
   pub tallies : Counts counts (placedIn es)
-  pub area : between buf headSize end ≡ cat entryBytes es
   pub inside : finishedOf mode end entries back ≤ length buf
 
-module _ (mode : Mode) (end entries back : ℕ) (counts buf : List ℕ) (es : List Entry) (describes : Describes mode end entries back counts buf es) where
+module _ (mode : Mode) (end entries back : ℕ) (counts buf : List ℕ) (es : List Entry) (numbers : Numbers mode end entries back counts buf es) where
   abbrev size : ℕ
   size = finishedOf mode end entries back
 
   pub back-is : backIn mode back ≡ backSizeOf mode es
-  back-is = ap (backIn mode) (describes .backs) ∙ backIn-twice mode (backSize es)
+  back-is = ap (backIn mode) (numbers .backs) ∙ backIn-twice mode (backSize es)
 
   pub size-is : size ≡ imageSize mode es
-  size-is = omega (arith, back-is, describes .ends, describes .number)
+  size-is = omega (arith, back-is, numbers .ends, numbers .number)
 
   pub back-offset-is : backOffsetOf mode end entries back ≡ backOffset mode es
   unfolding backOffsetOf backOffset
   back-offset-is =
-      let e : end + 16 * entries ≡ entriesEnd es + 16 * length es = omega (arith, describes .ends, describes .number) in
+      let e : end + 16 * entries ≡ entriesEnd es + 16 * length es = omega (arith, numbers .ends, numbers .number) in
       ap (λ (n : ℕ). cond (eqb n 0) 0 (end + 16 * entries)) back-is
       ∙ ap (λ (o : ℕ). cond (eqb (backSizeOf mode es) 0) 0 o) e
 
@@ -91,77 +91,61 @@ module _ (mode : Mode) (end entries back : ℕ) (counts buf : List ℕ) (es : Li
       ∙ ap (headBytes (imageSize mode es) (flagWord mode) (backSizeOf mode es)) back-offset-is
 
   rows-are : rowsFrom counts end 0 256 ≡ tableRows (entriesEnd es) (placedIn es)
-  rows-are = ap (λ (o : ℕ). rowsFrom counts o 0 256) (describes .ends) ∙ rows-image counts (entriesEnd es) (placedIn es) (describes .tallies)
+  rows-are = ap (λ (o : ℕ). rowsFrom counts o 0 256) (numbers .ends) ∙ rows-image counts (entriesEnd es) (placedIn es) (numbers .tallies)
 
-  zeros-are : replicate (size - end) 0 ≡ tablesWith (placedIn es) [] ++ backWords [] (backSizeOf mode es)
-  zeros-are =
-      zeros-both (placedIn es) (backSizeOf mode es) (size - end)
-      (omega (arith, back-is, describes .number, length-placed headSize es))
-
-  -- head and rows, and bytes stored from a place behind the entries on
-  stored-from : (z : List ℕ) (from to : ℕ) → end ≤ from → length z ≡ to - from → from ≤ to → to ≤ size
-      → sets (headed mode end entries back counts buf) from z ≡ upToEntries mode es ++ between buf end from ++ z ++ drop to buf
-  unfolding headed upToEntries
-  stored-from z from to low long high below =
-      let h = headBytes size (flagWord mode) (backIn mode back) (backOffsetOf mode end entries back) in
-      let r = rowsFrom counts end 0 256 in
-      let X = between buf end from in
-      let tail = drop to buf in
-      let H = headWords mode es in
-      let R = tableRows (entriesEnd es) (placedIn es) in
-      let E = cat entryBytes es in
-      stores buf h r z from to
-      (ap length head-is ∙ length-headWords mode es)
-      (ap length rows-are ∙ length-tableRows (entriesEnd es) (placedIn es))
-      (omega (arith, describes .ends)) long high (omega (arith, describes .inside))
-      ∙ ap (λ (l : List ℕ). l ++ r ++ between buf headSize from ++ z ++ tail) head-is
-      ∙ ap (λ (l : List ℕ). H ++ l ++ between buf headSize from ++ z ++ tail) rows-are
-      ∙ ap (λ (l : List ℕ). H ++ R ++ l ++ z ++ tail)
-      (between-parts buf headSize end from (omega (arith, describes .ends)) low ∙ ap (λ (l : List ℕ). l ++ X) (describes .area))
-      ∙ ap (λ (l : List ℕ). l ++ z ++ tail) (sym (append-assoc (H ++ R) E X))
-
-  -- right behind the entries
-  behind-stored : (z : List ℕ) (to : ℕ) → length z ≡ to - end → end ≤ to → to ≤ size
-      → sets (headed mode end entries back counts buf) end z ≡ upToEntries mode es ++ z ++ drop to buf
-  behind-stored z to long high below =
-      let none : end - end ≡ 0 = omega arith in
-      stored-from z end to (omega arith) long high below
-      ∙ ap (λ (n : ℕ). upToEntries mode es ++ take n (drop end buf) ++ z ++ drop to buf) none
-      ∙ ap (λ (l : List ℕ). l ++ z ++ drop to buf) (append-nil (upToEntries mode es))
-
-  pub cleared-partial : zeroed (headed mode end entries back counts buf) end size ≡ partial mode es [] ++ drop size buf
-  unfolding zeroed partial placed
-  cleared-partial =
-      behind-stored (replicate (size - end) 0) size (length-replicate (size - end) 0) (omega arith) (omega arith)
-      ∙ ap (λ (l : List ℕ). upToEntries mode es ++ l ++ drop size buf) zeros-are
-      ∙ ap (λ (l : List ℕ). l ++ drop size buf) (sym (append-assoc (upToEntries mode es) (tablesWith (placedIn es) []) (backWords [] (backSizeOf mode es))))
-
-  -- the back array alone cleared: where the tables will stand is whatever stood there
   zeros-back : replicate (size - (end + 16 * entries)) 0 ≡ backWords [] (backSizeOf mode es)
   zeros-back =
       let n = backSizeOf mode es in
       let long : size - (end + 16 * entries) ≡ length (backWords [] n) = omega (arith, back-is, length-backWords [] n) in
       ap (λ (k : ℕ). replicate k 0) long ∙ sym (zeros-links n)
 
-  pub back-cleared : zeroed (headed mode end entries back counts buf) (end + 16 * entries) size
-      ≡ upToEntries mode es ++ between buf end (end + 16 * entries) ++ backWords [] (backSizeOf mode es) ++ drop size buf
-  unfolding zeroed
-  back-cleared =
-      let from = end + 16 * entries in
-      stored-from (replicate (size - from) 0) from size (omega arith) (length-replicate (size - from) 0) (omega arith) (omega arith)
-      ∙ ap (λ (l : List ℕ). upToEntries mode es ++ between buf end from ++ l ++ drop size buf) zeros-back
+  pub length-front : length (headWords mode es ++ tableRows (entriesEnd es) (placedIn es) ++ between buf headSize end) ≡ entriesEnd es
+  length-front =
+      let H = headWords mode es in
+      let R = tableRows (entriesEnd es) (placedIn es) in
+      omega
+      (arith, length-append (H ++ R) (between buf headSize end), length-append H R, length-headWords mode es, length-tableRows (entriesEnd es) (placedIn es), length-between buf headSize end (omega (arith, numbers .ends)) (omega (arith, numbers .inside)), numbers .ends)
 
-  -- bytes for the tables stored: what stands behind them stays
-  pub tables-stored : (T : List ℕ) → length T ≡ 16 * entries
-      → sets (headed mode end entries back counts buf) end T
-      ≡ upToEntries mode es ++ T ++ between buf (end + 16 * entries) size ++ drop size buf
-  tables-stored T long =
+  -- head and rows written, the back array cleared: what stands in the place of the entries and of the tables is whatever stood there
+  pub begun-is : begunImage mode end entries back counts buf
+      ≡ headWords mode es ++ tableRows (entriesEnd es) (placedIn es) ++ between buf headSize end ++ between buf end (end + 16 * entries)
+      ++ backWords [] (backSizeOf mode es) ++ drop size buf
+  unfolding begunImage zeroed headed
+  begun-is =
       let from = end + 16 * entries in
-      let L = between buf from size in
-      let to : from + (size - from) ≡ size = omega arith in
-      let behind : drop from buf ≡ L ++ drop size buf =
-      sym (take-append-drop (size - from) (drop from buf))
-      ∙ ap (λ (l : List ℕ). L ++ l) (drop-drop (size - from) from buf ∙ ap (λ (n : ℕ). drop n buf) to) in
-      behind-stored T from (omega arith) (omega arith) (omega arith)
-      ∙ ap (λ (l : List ℕ). upToEntries mode es ++ T ++ l) behind
-      ∙ sym (append-assoc (upToEntries mode es ++ T) L (drop size buf))
+      let z : List ℕ = replicate (size - from) 0 in
+      let h = headBytes size (flagWord mode) (backIn mode back) (backOffsetOf mode end entries back) in
+      let r = rowsFrom counts end 0 256 in
+      let H = headWords mode es in
+      let R = tableRows (entriesEnd es) (placedIn es) in
+      let E = between buf headSize end in
+      let X = between buf end from in
+      let tail = drop size buf in
+      stores buf h r z from size
+      (ap length head-is ∙ length-headWords mode es)
+      (ap length rows-are ∙ length-tableRows (entriesEnd es) (placedIn es))
+      (omega (arith, numbers .ends)) (length-replicate {A = ℕ} (size - from) 0) (omega arith) (numbers .inside)
+      ∙ ap (λ (l : List ℕ). l ++ r ++ between buf headSize from ++ z ++ tail) head-is
+      ∙ ap (λ (l : List ℕ). H ++ l ++ between buf headSize from ++ z ++ tail) rows-are
+      ∙ ap (λ (l : List ℕ). H ++ R ++ l ++ z ++ tail) (between-parts buf headSize end from (omega (arith, numbers .ends)) (omega arith))
+      ∙ ap (λ (l : List ℕ). H ++ R ++ (E ++ X) ++ l ++ tail) zeros-back
+      ∙ ap (λ (l : List ℕ). l ++ backWords [] (backSizeOf mode es) ++ tail) (sym (append-assoc (H ++ R) E X))
+
+-- ---- tables and back array cleared
+
+pub cleared-partial : (mode : Mode) (es : List Entry) (R L tail : List ℕ) → length (R ++ L) ≡ 16 * length es + 4 * backSizeOf mode es
+    → zeroed (upToEntries mode es ++ R ++ L ++ tail) (entriesEnd es) (imageSize mode es) ≡ partial mode es [] ++ tail
+unfolding zeroed partial placed
+cleared-partial mode es R L tail long =
+    let U = upToEntries mode es in
+    let n = imageSize mode es - entriesEnd es in
+    let z : List ℕ = replicate n 0 in
+    let T = tablesWith (placedIn es) [] in
+    let W = backWords [] (backSizeOf mode es) in
+    let size : n ≡ 16 * length es + 4 * backSizeOf mode es = omega arith in
+    let same : length z ≡ length (R ++ L) = length-replicate {A = ℕ} n 0 ∙ size ∙ sym long in
+    ap (λ (l : List ℕ). sets l (entriesEnd es) z) (ap (λ (l : List ℕ). l ++ tail) (append-assoc U R L))
+    ∙ store-in U (R ++ L) tail z (entriesEnd es) 0 (omega (arith, length-upToEntries mode es)) (omega (arith, same))
+    ∙ ap (λ (l : List ℕ). U ++ l ++ tail) (ap (λ (l : List ℕ). sets l 0 z) (sym (append-nil (R ++ L))) ∙ sets-whole z (R ++ L) [] same ∙ append-nil z)
+    ∙ ap (λ (l : List ℕ). U ++ l ++ tail) (zeros-both (placedIn es) (backSizeOf mode es) n (omega (arith, length-placed headSize es)))
+    ∙ ap (λ (l : List ℕ). l ++ tail) (sym (append-assoc U T W))

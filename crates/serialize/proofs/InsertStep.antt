@@ -2,16 +2,17 @@
 use Prim.Native.Nat.{ℕ, _+_, _-_, _*_, _/_, _^_, _≤_, _<_}
 use native.Mathlib.Nat.{mod-lt}
 use native.Mathlib.Omega.{arith}
-use mathlib.Core.Path.{_≡_, refl, sym, ap, ap₂, _∙_}
-use mathlib.Core.Bool.{Bool, true, cond}
+use mathlib.Core.Path.{_≡_, refl, sym, ap, ap₂, subst, _∙_}
+use mathlib.Core.Bool.{Bool, true, false, cond}
 use mathlib.Core.List.{List, [], _∷_, _++_, map, append-assoc}
-use lib.ListN.{length, getD, take, drop, length-append}
-use lib.Seq.{sets, getD-at}
+use lib.ListN.{length, getD, take, drop, length-append, length-map}
+use lib.Seq.{sets, getD-at, take-append-seam}
 use lib.Dec.{leb, lit<}
 use borrow.Author.Tests.{eq-eqb, ne-eqb, le-leb}
 use Rattle.jhash.specs.NameHash.{hashOf}
+use Rattle.jhash.proofs.Outcomes.{hashOf-below}
 use Rattle.image.specs.Bytes.{word, le32, cat, range}
-use Rattle.image.specs.Tables.{Bucket, empty, tableOf, start, probeSequence, firstEmpty, atOf}
+use Rattle.image.specs.Tables.{Bucket, empty, tableOf, start, probeSequence, firstEmpty, atOf, Filled as TableIs}
 use Rattle.image.specs.Image.{Entry, Placed, headSize, entryBytes, entrySize, entriesSize, placed, inTable, ofTable, count, bucketOf, bucketBytes}
 use Rattle.image.specs.Image.{entriesBefore, tableOffset, backSize, backWords, backSizeOf, backOffset, entriesEnd, imageSize}
 use Rattle.image.specs.declared.Mode.{Mode}
@@ -20,7 +21,7 @@ use Rattle.image.proofs.Words.{length-le32}
 use Rattle.image.proofs.Lists.{cat-cons}
 use Rattle.image.proofs.Sizes.{length-entries, length-entryBytes, entriesSize-append, length-placed, placed-append, count-append, count-cons, length-bucketBytes, length-backWords}
 use Rattle.image.proofs.Stores.{sets-left, sets-right-at}
-use Rattle.image.proofs.AllOfList.{All, all-middle, all-filter, all-image}
+use Rattle.image.proofs.AllOfList.{All, all-map, all-middle, all-filter, all-image}
 use Rattle.image.proofs.Buckets.{filled-all, firstEmpty-ext}
 use Rattle.image.proofs.At.{At, at-equal, at-left, at-take, at-fits, at-word, at-second}
 use Rattle.image.proofs.Bools.{and-both}
@@ -29,6 +30,8 @@ use Rattle.image.proofs.EntryAt.{id-word, length-word, name-bytes, ids-below}
 use Rattle.image.specs.Stored.{between}
 use Rattle.image.specs.steps.EntryLength.{wholeLength}
 use Rattle.image.specs.steps.Contracts.{offsetAt}
+use Rattle.lookup_laws.proofs.SlotSearch.{none-equal}
+use Rattle.serialize.specs.steps.Meeting.{sameNames, bucketAt, Unmet, RowUnmet}
 use Rattle.serialize.specs.steps.Insertion.{holdsTable, inserted, insertedByRow, hashAt, backStored, entryInserted}
 use Rattle.image.proofs.Between.{is-whole}
 use Rattle.serialize.proofs.PartialImage.{tableWith, tablesWith, length-tableWith, length-tablesWith, upToEntries, length-upToEntries, partial}
@@ -125,6 +128,12 @@ unfolding placed entriesSize
 offsets o n [] h = tt
 offsets o n (e ∷ es) h = (omega arith, offsets (o + entrySize e) n es (omega arith))
 
+-- and at least where they begin
+pub above : (o : ℕ) (es : List Entry) → All (λ (p : Placed). o ≤ p .at) (placed o es)
+unfolding placed
+above o [] = tt
+above o (e ∷ es) = (omega arith, all-map (λ p h. omega (arith, h)) (placed (o + entrySize e) es) (above (o + entrySize e) es))
+
 module _ (mode : Mode) (es qs rest : List Entry) (e : Entry) (tail : List ℕ) (split : es ≡ qs ++ e ∷ rest)
     (fits : imageSize mode es ≤ 4294967295) (ids : All (λ (x : Entry). x .id < 2 ^ 32) es) where
   B : List ℕ
@@ -201,6 +210,10 @@ module _ (mode : Mode) (es qs rest : List Entry) (e : Entry) (tail : List ℕ) (
   unfolding B
   name-read = name-there (headSize + entriesSize qs) e rest from-here
 
+  pub name-found : take (length (e .name) + 1 - 1) (drop (headSize + entriesSize qs + 8) (partial mode es qs ++ tail)) ≡ e .name
+  unfolding B
+  name-found = name-read
+
   -- ---- the bucket for it
 
   tables-fit : entriesEnd es + 16 * length ps ≤ 4294967295
@@ -254,6 +267,61 @@ module _ (mode : Mode) (es qs rest : List Entry) (e : Entry) (tail : List ℕ) (
       let some = some-there in
       let inside : entriesEnd es + length T ≤ length B = at-fits (tables-there mode es qs tail) (omega arith) in
       and-both (leb 1 n) (leb (o + 8 * n) (length B)) (le-leb 1 n (omega arith)) (le-leb (o + 8 * n) (length B) (omega arith))
+
+  hash-small : (k : ℕ) → getD (tableWith ps rs u) k empty .hash < 2 ^ 32
+  unfolding tableWith rs ofTable
+  hash-small k =
+      filled-all (λ (b : Bucket). b .hash < 2 ^ 32) (2 * count u ps) (map bucketOf (ofTable u rs)) (omega arith)
+      (all-image (λ (b : Bucket). b .hash < 2 ^ 32) bucketOf (λ q h. hashOf-below (q .entry .name)) (ofTable u rs)
+      (all-filter (λ (q : Placed). headSize ≤ q .at) (inTable u) rs (above headSize qs))) k
+
+  hash-there : (k : ℕ) → k < 2 * count u ps → word B (entriesEnd es + 16 * entriesBefore u ps + 8 * k) ≡ getD (tableWith ps rs u) k empty .hash
+  unfolding B ps rs bucketBytes tablesWith
+  hash-there k h =
+      let b = getD (tableWith ps rs u) k empty in
+      at-word (b .hash)
+      (at-left (le32 (b .hash)) (le32 (b .at))
+      (bucket-of (placedIn es) (tableWith ps rs) (length-tableWith ps rs) (entriesEnd es) (tables-there mode es qs tail) u k u-below h))
+      (hash-small k)
+
+  -- the bytes up to the end of the entries
+  front-there : take (entriesEnd es) B ≡ upToEntries mode es
+  unfolding B partial
+  front-there =
+      let U = upToEntries mode es in
+      let T = tablesWith (placedIn es) (placedIn qs) in
+      let L = backWords (placedIn qs) (backSizeOf mode es) in
+      ap₂ take (sym (length-upToEntries mode es)) (append-assoc (U ++ T) L tail ∙ append-assoc U T (L ++ tail)) ∙ take-append-seam U (T ++ (L ++ tail))
+
+  table-held : TableIs (2 * count u ps) (bucketAt B (entriesEnd es + 16 * entriesBefore u ps)) (map bucketOf (ofTable u rs))
+  unfolding tableWith
+  table-held = record { each = λ k h. same-bucket (hash-there k h) (bucket-there k h) }
+    where
+      same-bucket : {a b c d : ℕ} → a ≡ c → b ≡ d → _≡_ {A = Bucket} (record { hash = a; at = b }) (record { hash = c; at = d })
+      same-bucket p q = λ i. record { hash = p i; at = q i }
+
+  -- its search met no entry of equal name: no earlier entry of its table and hash has its name
+  pub row-apart : RowUnmet (partial mode es qs ++ tail) (entriesEnd es) (hashOf (e .name)) (headSize + entriesSize qs)
+      → All (λ (x : Bucket). x .hash ≡ hashOf (e .name) → sameNames (upToEntries mode es) (headSize + entriesSize qs) (x .at) ≡ false)
+      (map bucketOf (ofTable (tableOf (hashOf (e .name))) (placedIn qs)))
+  unfolding B ps rs u ofTable
+  row-apart told =
+      let h = hashOf (e .name) in
+      let at = headSize + entriesSize qs in
+      let end = entriesEnd es in
+      let o = entriesEnd es + 16 * entriesBefore u ps in
+      let n = 2 * count u ps in
+      let v : ℕ → Bool = sameNames (take end B) at in
+      let there : Unmet B end o n h at =
+      subst (λ (y : ℕ). Unmet B end o y h at) number-there (subst (λ (x : ℕ). Unmet B end x (word B (28 + 8 * u)) h at) table-there told) in
+      let some = some-there in
+      let few = one-there in
+      let size = length-map (ofTable u rs) bucketOf in
+      subst (λ (f : List ℕ). All (λ (x : Bucket). x .hash ≡ h → sameNames f at (x .at) ≡ false) (map bucketOf (ofTable u rs))) front-there
+      (none-equal table-held (omega arith) h v (omega arith)
+      (all-image (λ (b : Bucket). b .at ≡ 0 → ⊥) bucketOf (λ q l z. omega arith) (ofTable u rs)
+      (all-filter (λ (q : Placed). headSize ≤ q .at) (inTable u) rs (above headSize qs)))
+      there)
 
   -- ---- the buffer with its pair, and with its offset in the back array
 

@@ -2,10 +2,10 @@
 -- Assumes nothing.
 use Prim.Native.Nat.{ℕ, suc, _+_, _-_, _*_, _%_, _≤_, _<_}
 use native.Mathlib.Omega.{arith}
-use mathlib.Core.Path.{_≡_, sym, ap, ap₂, _∙_}
-use mathlib.Core.Bool.{Bool, true, false, cond}
+use mathlib.Core.Path.{_≡_, sym, ap, ap₂, subst, _∙_}
+use mathlib.Core.Bool.{Bool, true, false, cond, _||_}
 use mathlib.Core.List.{List, _++_}
-use lib.ListN.{length}
+use lib.ListN.{length, take, drop, replicate}
 use lib.Seq.{sets}
 use lib.Dec.{eqb, leb}
 use borrow.Author.Tests.{eq-eqb, ne-eqb, leb-true}
@@ -19,8 +19,11 @@ use Rattle.image.specs.Stored.{between}
 use Rattle.image.specs.Tables.{start, probeSequence, firstEmpty}
 use Rattle.image.specs.steps.EntryLength.{wholeLength}
 use Rattle.image.specs.steps.Contracts.{BucketIs, TableIn, offsetAt}
-use Rattle.serialize.specs.steps.Insertion.{holdsTable, inserted, PairInserted, insertedByRow, EntryPre, hashAt}
+use Rattle.image.proofs.Bools.{false-not-true, or-false-first, or-false-second}
+use Rattle.serialize.specs.steps.Insertion.{holdsTable, inserted, insertedByRow, EntryPre, hashAt}
 use Rattle.serialize.specs.steps.Insertion.{backStored, entryInserted, InsertEntriesPre, insertedFrom}
+use Rattle.serialize.specs.steps.Meeting.{nameIn, Unmet, ProbePre, Probed, PairInserted, RowUnmet, RowInserted, EntryInserted, UnmetFrom, EntriesInserted, SinglyDone}
+use Rattle.serialize.specs.steps.Written.{zeroed}
 
 -- ---- a pair
 
@@ -29,17 +32,47 @@ pair-stored b b1 b2 at h v p q =
     q ∙ ap (λ (l : List ℕ). sets l (at + 4) (le32 v)) p
     ∙ sets-then (le32 h) (le32 v) b at (at + 4) (omega (arith, length-le32 h))
 
-pub pair-inserted : (buf : List ℕ) (o n h at i k : ℕ) {buf′ : List ℕ} → BucketIs (start h n) n i → BucketIs (firstEmpty (offsetAt buf o) (probeSequence n n i)) n k
-    → buf′ ≡ sets buf (o + 8 * k) (le32 h ++ le32 at) → buf′ ≡ inserted buf o n h at
+pub pair-inserted : (buf : List ℕ) (end o n h at k : ℕ) {met : Bool} {buf′ : List ℕ} → Probed buf end o n h at k met
+    → buf′ ≡ sets buf (o + 8 * k) (le32 h ++ le32 at) → h < 4294967296 → at < 4294967296 → PairInserted buf end o n h at buf′ met
 unfolding inserted
-pair-inserted buf o n h at i k s e p =
-    p
-    ∙ ap (λ (j : ℕ). sets buf (o + 8 * j) (le32 h ++ le32 at)) (e .is ∙ ap (λ (j : ℕ). firstEmpty (offsetAt buf o) (probeSequence n n j)) (s .is))
+pair-inserted buf end o n h at k found p hash-word offset-word =
+    record {
+      stored = p ∙ ap (λ (j : ℕ). sets buf (o + 8 * j) (le32 h ++ le32 at)) (found .first .is);
+      hash-word = hash-word;
+      offset-word = offset-word;
+      unmet = found .unmet;
+    }
 
-pub table-in : {buf : List ℕ} {o n : ℕ} {b : Bool} → b ≡ holdsTable buf o n → b ≡ true → TableIn buf o n
-table-in {buf} {o} {n} e holds =
+-- in a buffer that is still as it was
+pub inserted-as : {buf buf₀ after : List ℕ} {end o n h at : ℕ} {met : Bool} → buf ≡ buf₀ → PairInserted buf end o n h at after met
+    → PairInserted buf₀ end o n h at after met
+inserted-as {after = after} {end = end} {o = o} {n = n} {h = h} {at = at} {met = met} e done =
+    subst (λ (b : List ℕ). PairInserted b end o n h at after met) e done
+
+-- the name of an entry, as it is read
+pub name-in-read : (f : List ℕ) (at n : ℕ) {name : List ℕ} → n ≡ wholeLength (between f at (length f)) → name ≡ take (n - 1) (drop (at + 8) f)
+    → name ≡ nameIn f at
+unfolding nameIn
+name-in-read f at n is e = e ∙ ap (λ (k : ℕ). take (k - 1) (drop (at + 8) f)) is
+
+-- a test that was true
+pub not-met : {A : Type 0} → true ≡ false → A
+not-met z = absurd (false-not-true (sym z))
+
+-- the first empty bucket, where an entry of equal name was met
+pub restarted : (buf : List ℕ) (end o n h at i k : ℕ) → BucketIs (start h n) n i → BucketIs (firstEmpty (offsetAt buf o) (probeSequence n n i)) n k
+    → Probed buf end o n h at k true
+restarted buf end o n h at i k s e =
+    record {
+      first = record { is = e .is ∙ ap (λ (j : ℕ). firstEmpty (offsetAt buf o) (probeSequence n n j)) (s .is); inside = e .inside };
+      unmet = not-met;
+    }
+
+pub table-in : {buf : List ℕ} {end o n : ℕ} {b : Bool} → b ≡ holdsTable buf o n → b ≡ true → end ≤ length buf → ProbePre buf end o n
+table-in {buf} {end} {o} {n} e holds front =
     let h = sym e ∙ holds in
     record {
+      front = front;
       some = leb-true 1 n (and-first (leb 1 n) (leb (o + 8 * n) (length buf)) h);
       inside = leb-true (o + 8 * n) (length buf) (and-second (leb 1 n) (leb (o + 8 * n) (length buf)) h);
     }
@@ -52,20 +85,28 @@ module _ (buf : List ℕ) (h at : ℕ) {o n : ℕ} {b : Bool} (is-o : o ≡ word
       ap (λ (t : Bool). cond t (inserted buf o n h at) buf) is-b
       ∙ ap₂ (λ (x : ℕ) (y : ℕ). cond (holdsTable buf x y) (inserted buf x y h at) buf) is-o is-n
 
-  pub row-none : b ≡ false → buf ≡ insertedByRow buf h at
-  row-none lacks = sym (ap (λ (t : Bool). cond t (inserted buf o n h at) buf) lacks) ∙ by-row
+  pub row-none : (end : ℕ) → b ≡ false → RowInserted buf end h at buf true
+  row-none end lacks = record { leaves = sym (ap (λ (t : Bool). cond t (inserted buf o n h at) buf) lacks) ∙ by-row; unmet = not-met }
 
-  pub row-inserted : b ≡ true → {buf′ : List ℕ} → PairInserted buf o n h at buf′ → buf′ ≡ insertedByRow buf h at
-  row-inserted holds p = p .stored ∙ sym (ap (λ (t : Bool). cond t (inserted buf o n h at) buf) holds) ∙ by-row
+  pub row-inserted : (end : ℕ) → b ≡ true → {buf′ : List ℕ} {met : Bool} → PairInserted buf end o n h at buf′ met → RowInserted buf end h at buf′ met
+  row-inserted end holds p =
+      record {
+        leaves = p .stored ∙ sym (ap (λ (t : Bool). cond t (inserted buf o n h at) buf) holds) ∙ by-row;
+        unmet = λ z. subst (λ (x : ℕ). Unmet buf end x (word buf (28 + 8 * (h % 256))) h at) is-o (subst (λ (y : ℕ). Unmet buf end o y h at) is-n (p .unmet z));
+      }
 
 -- ---- an entry
 
-pub entry-inserted : (mode : Mode) (back-offset : ℕ) (buf : List ℕ) (at n : ℕ) {id h : ℕ} {b1 b2 : List ℕ} → id ≡ word buf at → h ≡ hashAt buf at n
-    → b1 ≡ insertedByRow buf h at → b2 ≡ backStored mode b1 back-offset id at → b2 ≡ entryInserted mode back-offset buf at n
+pub entry-inserted : (mode : Mode) (back-offset : ℕ) (buf : List ℕ) (end at n : ℕ) {id h : ℕ} {b1 b2 : List ℕ} {met : Bool} → id ≡ word buf at → h ≡ hashAt buf at n
+    → RowInserted buf end h at b1 met → b2 ≡ backStored mode b1 back-offset id at → EntryInserted mode back-offset buf end at n b2 met
 unfolding entryInserted
-entry-inserted mode back-offset buf at n ei eh p q =
-    q
-    ∙ ap₂ (λ (l : List ℕ) (i : ℕ). backStored mode l back-offset i at) (p ∙ ap (λ (k : ℕ). insertedByRow buf k at) eh) ei
+entry-inserted mode back-offset buf end at n ei eh p q =
+    record {
+      leaves =
+          q
+          ∙ ap₂ (λ (l : List ℕ) (i : ℕ). backStored mode l back-offset i at) (p .leaves ∙ ap (λ (k : ℕ). insertedByRow buf k at) eh) ei;
+      unmet = λ z. subst (λ (k : ℕ). RowUnmet buf end k at) eh (p .unmet z);
+    }
 
 -- ---- a walk over the entries
 
@@ -76,13 +117,14 @@ entry-in {back-offset} {end} pre buf long at n before is small some =
     let r = entry-room buf at end n before (omega (arith, pre .inside)) is some in
     (r .before, record { inside = r .name .inside; some = r .name .some; length-word = small; offset-word = omega (arith, pre .end-word) })
 
--- the entries from `at` on, inserted into this buffer, leave what all entries leave
-pub record Inserting (mode : Mode) (back-offset end entries : ℕ) (buf₀ buf : List ℕ) (at left : ℕ) : Type 0 where
+-- the entries from `at` on, inserted into this buffer, leave what all entries leave, and meet none if all meet none
+pub record Inserting (mode : Mode) (back-offset end entries : ℕ) (buf₀ buf : List ℕ) (at left : ℕ) (met : Bool) : Type 0 where
   pub inside : at ≤ end
   pub long : length buf ≡ length buf₀
   pub leaves : insertedFrom mode back-offset end left at buf ≡ insertedFrom mode back-offset end entries 2072 buf₀
+  pub unmet : met ≡ false → UnmetFrom mode back-offset end left at buf → UnmetFrom mode back-offset end entries 2072 buf₀
 
-module _ {mode : Mode} {back-offset end entries : ℕ} {buf₀ buf : List ℕ} {at left : ℕ} (inv : Inserting mode back-offset end entries buf₀ buf at left) where
+module _ {mode : Mode} {back-offset end entries : ℕ} {buf₀ buf : List ℕ} {at left : ℕ} {met : Bool} (inv : Inserting mode back-offset end entries buf₀ buf at left met) where
   abbrev from : ℕ → List ℕ
   from n = insertedFrom mode back-offset end (left - 1) (at + (8 + n)) (entryInserted mode back-offset buf at n)
 
@@ -93,20 +135,41 @@ module _ {mode : Mode} {back-offset end entries : ℕ} {buf₀ buf : List ℕ} {
         let m : suc (left - 1) ≡ left = omega arith in
         ap (λ (k : ℕ). cond (eqb k 0) buf (from k)) is ∙ ap (λ (k : ℕ). insertedFrom mode back-offset end k at buf) m ∙ inv .leaves
 
-    pub inserted-broken : n ≡ 0 → buf ≡ insertedFrom mode back-offset end entries 2072 buf₀
-    inserted-broken z = sym (ap (λ (b : Bool). cond b buf (from n)) (eq-eqb n 0 z)) ∙ next
+    pub inserted-broken : n ≡ 0 → EntriesInserted mode back-offset end entries buf₀ buf true
+    inserted-broken z = record { leaves = sym (ap (λ (b : Bool). cond b buf (from n)) (eq-eqb n 0 z)) ∙ next; unmet = not-met }
 
-    pub inserted-step : (n ≡ 0 → ⊥) → at + (8 + n) ≤ end → (buf′ : List ℕ) → length buf′ ≡ length buf → buf′ ≡ entryInserted mode back-offset buf at n
-        → Inserting mode back-offset end entries buf₀ buf′ (at + (8 + n)) (left - 1)
-    inserted-step some before buf′ same done = record {
+    -- the first meets none, and then the others
+    abbrev Both : ℕ → Type 0
+    Both k = RowUnmet buf end (hashAt buf at k) at × UnmetFrom mode back-offset end (left - 1) (at + (8 + k)) (entryInserted mode back-offset buf at k)
+
+    unmet-next : met ≡ false → Both n → UnmetFrom mode back-offset end entries 2072 buf₀
+    unmet-next z two =
+        let m : suc (left - 1) ≡ left = omega arith in
+        inv .unmet z (subst (λ (k : ℕ). UnmetFrom mode back-offset end k at buf) m (subst Both is two))
+
+    pub inserted-step : (n ≡ 0 → ⊥) → at + (8 + n) ≤ end → (buf′ : List ℕ) → length buf′ ≡ length buf → {one : Bool} → EntryInserted mode back-offset buf end at n buf′ one
+        → Inserting mode back-offset end entries buf₀ buf′ (at + (8 + n)) (left - 1) (met || one)
+    inserted-step some before buf′ same {one} done = record {
       inside = before;
       long = same ∙ inv .long;
       leaves =
-          ap (insertedFrom mode back-offset end (left - 1) (at + (8 + n))) done
+          ap (insertedFrom mode back-offset end (left - 1) (at + (8 + n))) (done .leaves)
           ∙ sym (ap (λ (b : Bool). cond b buf (from n)) (ne-eqb n 0 some))
           ∙ next;
+      unmet = λ z rest. unmet-next (or-false-first met one z)
+          (done .unmet (or-false-second met one z), subst (UnmetFrom mode back-offset end (left - 1) (at + (8 + n))) (done .leaves) rest);
     }
 
-  pub inserted-all : left ≡ 0 → buf ≡ insertedFrom mode back-offset end entries 2072 buf₀
+  pub inserted-all : left ≡ 0 → EntriesInserted mode back-offset end entries buf₀ buf met
   unfolding insertedFrom
-  inserted-all z = sym (ap (λ (k : ℕ). insertedFrom mode back-offset end k at buf) z) ∙ inv .leaves
+  inserted-all e =
+      record {
+        leaves = sym (ap (λ (k : ℕ). insertedFrom mode back-offset end k at buf) e) ∙ inv .leaves;
+        unmet = λ z. inv .unmet z (subst (λ (k : ℕ). UnmetFrom mode back-offset end k at buf) (sym e) tt);
+      }
+
+-- from cleared tables and back array
+pub inserted-in : (mode : Mode) (back-offset end entries size : ℕ) (buf : List ℕ) {b1 b2 : List ℕ} {met : Bool} → b1 ≡ sets buf end (replicate (size - end) 0)
+    → EntriesInserted mode back-offset end entries b1 b2 met → SinglyDone mode back-offset end entries size buf b2 met
+unfolding zeroed
+inserted-in mode back-offset end entries size buf {b1} {b2} {met} p q = subst (λ (b : List ℕ). EntriesInserted mode back-offset end entries b b2 met) p q

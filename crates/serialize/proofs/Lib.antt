@@ -5,6 +5,7 @@ pub mod HeadRows
 pub mod PartialImage
 pub mod Cleared
 pub mod EntryAdded
+pub mod Pairwise
 pub mod Insertion
 pub mod InsertStep
 pub mod PartitionSteps
@@ -12,6 +13,6 @@ pub mod TableFill
 pub mod TableAreas
 pub mod Partitioned
 pub mod TablesFilled
-pub mod TablesCopied
+pub mod Distinct
 pub mod WriteSteps
 pub mod WrittenImage

@@ -8,8 +8,8 @@ use mathlib.Core.List.{List}
 use lib.ListN.{getD}
 use lib.Dec.{leb}
 use lib.Bits.{bitOr}
-use borrow.Author.Tests.{le-leb}
-use Rattle.image.proofs.AllOfRange.{all-true}
+use borrow.Author.Tests.{le-leb, leb-true}
+use Rattle.image.proofs.AllOfRange.{all-true, all-each}
 use Rattle.image.proofs.BitOr.{le-or-l, le-or-r}
 use Rattle.serialize.specs.Record.{noneAbove}
 
@@ -33,3 +33,9 @@ module _ (counts : List ℕ) where
     where
       below : (i : ℕ) → i < 256 → leb (getD counts (0 + i) 0) entries ≡ true
       below i p = let z : 0 + i ≡ i = omega arith in rw z (le-leb (getD counts i 0) entries (omega (arith, h i p)))
+
+  -- and that is a bound of each
+  pub each-within : (most : ℕ) → noneAbove counts most ≡ true → (t : ℕ) → t < 256 → getD counts t 0 ≤ most
+  each-within most h t k =
+      let z : 0 + t ≡ t = omega arith in
+      rw z at (leb-true (getD counts (0 + t) 0) most (all-each (λ (i : ℕ). leb (getD counts i 0) most) 0 256 t h k))

@@ -3,12 +3,12 @@
 use Prim.Native.Nat.{ℕ, zero, suc, _+_, _-_, _*_, _%_, _^_, _≤_, _<_}
 use native.Mathlib.Omega.{arith}
 use native.Mathlib.Nat.{mod-eq-of-lt}
-use native.Mathlib.Decide.{ℕ-discrete, decLt}
+use native.Mathlib.Decide.{ℕ-discrete}
 use mathlib.Core.Path.{_≡_, refl, sym, ap, ap₂, _∙_}
 use mathlib.Core.Bool.{Bool, cond}
-use mathlib.Core.List.{List, [], _∷_, _++_, map, append-nil, append-assoc}
+use mathlib.Core.List.{List, [], _∷_, _++_, append-nil, append-assoc}
 use lib.ListN.{length, getD, set, replicate, length-append, length-set, length-replicate}
-use lib.Seq.{sets, getD-set-same, getD-set-other, getD-take}
+use lib.Seq.{sets, getD-set-same, getD-set-other}
 use lib.Dec.{eqb}
 use borrow.Author.Tests.{ne-eqb, le-leb}
 use Rattle.jhash.specs.NameHash.{hashOf}
@@ -26,11 +26,9 @@ use Rattle.image.proofs.At.{At, at-same, at-right}
 use Rattle.image.proofs.Parts.{placedIn, before-most}
 use Rattle.image.proofs.EntryAt.{id-word}
 use Rattle.serialize.specs.steps.Insertion.{hashAt, backStored}
-use Rattle.serialize.specs.steps.Preconditions.{FirstHashes}
-use Rattle.serialize.specs.steps.Partition.{pairPut, advanced, entryHash, partitioned, partitionedFrom, tableOffsetsFrom}
+use Rattle.serialize.specs.steps.Partition.{pairPut, advanced, partitioned, partitionedFrom, tableOffsetsFrom}
 use Rattle.serialize.proofs.HeadRows.{Counts}
 use Rattle.serialize.proofs.PartialImage.{upToEntries, length-upToEntries, entries-after}
-use Rattle.serialize.proofs.PartitionSteps.{hash-known, hash-computed}
 use Rattle.serialize.proofs.InsertStep.{nextOf, next-at, placed-more, store-in, linked, entry-there, length-there, name-there, own-below, id-small, id-below, one-there, name-short, ends-there}
 use Rattle.serialize.proofs.TableAreas.{areaWith, length-areas, length-areaWith, count-own, count-other, areas-more}
 
@@ -97,17 +95,13 @@ module _ (counts : List ℕ) (end : ℕ) (ps : List Placed) (tallies : Counts co
           ∙ mod-eq-of-lt (omega (arith, before-most ps t h))
           ∙ omega (arith, count-nil t)
 
--- the image of the entries es whose tables have the pairs of the entries qs
-unfoldable pub halfway : Mode → List Entry → List ℕ → List Entry → List ℕ → List ℕ
-halfway mode es X qs tail =
-    upToEntries mode es ++ cat (areaWith (placedIn es) X (placedIn qs)) (range 0 256) ++ backWords (placedIn qs) (backSizeOf mode es) ++ tail
+-- a front of bytes, tables of the entries es that have the pairs of the entries qs, and the back array of these
+unfoldable pub halfway : Mode → List ℕ → List Entry → List ℕ → List Entry → List ℕ → List ℕ
+halfway mode F es X qs tail =
+    F ++ cat (areaWith (placedIn es) X (placedIn qs)) (range 0 256) ++ backWords (placedIn qs) (backSizeOf mode es) ++ tail
 
--- the hash of an entry behind others
-next-hash : (qs rest : List Entry) (e : Entry) → getD (map (λ (x : Entry). hashOf (x .name)) (qs ++ e ∷ rest)) (length qs) 0 ≡ hashOf (e .name)
-next-hash [] rest e = refl
-next-hash (q ∷ qs) rest e = next-hash qs rest e
-
-module _ (mode : Mode) (es : List Entry) (hashes X tail : List ℕ) (known : FirstHashes hashes es) (long : length X ≡ 16 * length (placedIn es)) where
+-- the pairs have their room, whatever stands before them
+module _ (mode : Mode) (F : List ℕ) (es : List Entry) (X tail : List ℕ) (front : length F ≡ entriesEnd es) (long : length X ≡ 16 * length (placedIn es)) where
   ps : List Placed
   ps = placedIn es
 
@@ -128,7 +122,7 @@ module _ (mode : Mode) (es : List Entry) (hashes X tail : List ℕ) (known : Fir
   module _ (qs rest : List Entry) (e : Entry) (split : es ≡ qs ++ e ∷ rest) (fits : imageSize mode es ≤ 4294967295)
       (ids : All (λ (x : Entry). x .id < 2 ^ 32) es) (places : List ℕ) (next : Places (entriesEnd es) (placedIn es) (placedIn qs) places) where
     B : List ℕ
-    B = halfway mode es X qs tail
+    B = halfway mode F es X qs tail
 
     rs : List Placed
     rs = placedIn qs
@@ -142,48 +136,14 @@ module _ (mode : Mode) (es : List Entry) (hashes X tail : List ℕ) (known : Fir
     at : ℕ
     at = headSize + entriesSize qs
 
-    from-here : At B at (cat entryBytes (e ∷ rest))
-    unfolding B halfway at
-    from-here =
-        let R = cat (areaWith (placedIn es) X (placedIn qs)) (range 0 256) in
-        let L = backWords (placedIn qs) (backSizeOf mode es) in
-        let U = upToEntries mode es in
-        entries-after es (e ∷ rest) qs (rw (append-assoc (U ++ R) L tail, append-assoc U R (L ++ tail)) (entries-in mode es (R ++ (L ++ tail)))) split
-
-    pub half-length : wholeLength (between (halfway mode es X qs tail) (headSize + entriesSize qs) (entriesEnd es)) ≡ length (e .name) + 1
-    unfolding B at
-    half-length =
-        length-there at e rest from-here (entriesEnd es) (ends-there mode es qs rest e tail split fits ids)
-        (name-short mode es qs rest e tail split fits ids)
-
-    name-hash : hashAt (halfway mode es X qs tail) (headSize + entriesSize qs) (length (e .name) + 1) ≡ hashOf (e .name)
-    unfolding hashAt B at
-    name-hash = ap hashOf (name-there at e rest from-here)
-
-    -- known or computed, the hash is that of the name
-    pub half-hash : entryHash hashes (length qs) (halfway mode es X qs tail) (headSize + entriesSize qs) (length (e .name) + 1) ≡ hashOf (e .name)
-    half-hash =
-        elim (decLt (length qs) (length hashes)) [
-          | yes h ↦
-              sym (hash-known hashes (length qs) (halfway mode es X qs tail) (headSize + entriesSize qs) (length (e .name) + 1) h)
-              ∙ ap (λ (l : List ℕ). getD l (length qs) 0) (known .are)
-              ∙ getD-take (length hashes) (map (λ (x : Entry). hashOf (x .name)) es) (length qs) 0 h
-              ∙ ap (λ (l : List Entry). getD (map (λ (x : Entry). hashOf (x .name)) l) (length qs) 0) split
-              ∙ next-hash qs rest e
-          | no h ↦
-              sym (hash-computed hashes (length qs) (halfway mode es X qs tail) (headSize + entriesSize qs) (length (e .name) + 1) (omega (arith, h)) refl)
-              ∙ name-hash
-        ]
-
     place-there : getD places u 0 ≡ entriesEnd es + 16 * entriesBefore u ps + 8 * count u rs
     unfolding u ps rs
     place-there = next .each (tableOf (hashOf (e .name))) (own-below mode es qs rest e tail split fits ids)
 
     with-pair : pairPut B (getD places u 0) (hashOf (e .name)) at
-        ≡ upToEntries mode es ++ cat (areaWith ps X (rs ++ p ∷ [])) (range 0 256) ++ backWords rs (backSizeOf mode es) ++ tail
+        ≡ F ++ cat (areaWith ps X (rs ++ p ∷ [])) (range 0 256) ++ backWords rs (backSizeOf mode es) ++ tail
     unfolding B halfway bucketBytes at u rs p ps
     with-pair =
-        let U = upToEntries mode es in
         let R = cat (areaWith (placedIn es) X (placedIn qs)) (range 0 256) in
         let L = backWords (placedIn qs) (backSizeOf mode es) in
         let b = bucketBytes (bucketOf (nextOf qs e)) in
@@ -193,43 +153,38 @@ module _ (mode : Mode) (es : List Entry) (hashes X tail : List ℕ) (known : Fir
         let one = one-there mode es qs rest e tail split fits ids in
         let most = before-most (placedIn es) v below in
         let sized = areas-long qs (e ∷ rest) split in
-        let inside : getD places v 0 + 8 ≤ length (U ++ R ++ L ++ tail) =
+        let inside : getD places v 0 + 8 ≤ length (F ++ R ++ L ++ tail) =
         omega
-        (arith, place-there, length-append (U ++ R ++ L) tail, length-append (U ++ R) L, length-append U R, length-upToEntries mode es, length-placed headSize es) in
-        ap (λ (t : Bool). cond t (sets (U ++ R ++ L ++ tail) (getD places v 0) b) (U ++ R ++ L ++ tail))
-        (le-leb (getD places v 0 + 8) (length (U ++ R ++ L ++ tail)) inside)
-        ∙ ap (λ (l : List ℕ). sets l (getD places v 0) b) (append-assoc (U ++ R) L tail)
-        ∙ store-in U R (L ++ tail) b (getD places v 0) j (omega (arith, place-there, length-upToEntries mode es))
+        (arith, place-there, length-append (F ++ R ++ L) tail, length-append (F ++ R) L, length-append F R, front, length-placed headSize es) in
+        ap (λ (t : Bool). cond t (sets (F ++ R ++ L ++ tail) (getD places v 0) b) (F ++ R ++ L ++ tail))
+        (le-leb (getD places v 0 + 8) (length (F ++ R ++ L ++ tail)) inside)
+        ∙ ap (λ (l : List ℕ). sets l (getD places v 0) b) (append-assoc (F ++ R) L tail)
+        ∙ store-in F R (L ++ tail) b (getD places v 0) j (omega (arith, place-there, front))
         (omega (arith, length-placed headSize es, length-bucketBytes (bucketOf (nextOf qs e))))
-        ∙ ap (λ (l : List ℕ). U ++ l ++ (L ++ tail))
+        ∙ ap (λ (l : List ℕ). F ++ l ++ (L ++ tail))
         (areas-more (placedIn es) X long (placedIn qs) (nextOf qs e) (λ t h. few qs (e ∷ rest) split t) one below)
-        ∙ sym (append-assoc (U ++ cat (areaWith (placedIn es) X (placedIn qs ++ nextOf qs e ∷ [])) (range 0 256)) L tail)
+        ∙ sym (append-assoc (F ++ cat (areaWith (placedIn es) X (placedIn qs ++ nextOf qs e ∷ [])) (range 0 256)) L tail)
 
-    pub half-step : partitioned mode (backOffset mode es) places (halfway mode es X qs tail) (headSize + entriesSize qs)
-        (entryHash hashes (length qs) (halfway mode es X qs tail) (headSize + entriesSize qs) (length (e .name) + 1))
-        ≡ halfway mode es X (qs ++ e ∷ []) tail
+    pub half-step : partitioned mode (backOffset mode es) places (halfway mode F es X qs tail) (headSize + entriesSize qs) (e .id) (hashOf (e .name))
+        ≡ halfway mode F es X (qs ++ e ∷ []) tail
     unfolding partitioned B halfway at rs p ps u
     half-step =
         let L = backWords (placedIn qs) (backSizeOf mode es) in
-        let F = upToEntries mode es ++ cat (areaWith (placedIn es) X (placedIn qs ++ nextOf qs e ∷ [])) (range 0 256) in
+        let G = F ++ cat (areaWith (placedIn es) X (placedIn qs ++ nextOf qs e ∷ [])) (range 0 256) in
         let o = backOffset mode es in
-        let size : length F ≡ entriesEnd es + 16 * length es =
-        length-append (upToEntries mode es) (cat (areaWith (placedIn es) X (placedIn qs ++ nextOf qs e ∷ [])) (range 0 256))
-        ∙ ap₂ _+_ (length-upToEntries mode es)
+        let size : length G ≡ entriesEnd es + 16 * length es =
+        length-append F (cat (areaWith (placedIn es) X (placedIn qs ++ nextOf qs e ∷ [])) (range 0 256))
+        ∙ ap₂ _+_ front
         (ap (λ (l : List Placed). length (cat (areaWith (placedIn es) X l) (range 0 256))) (sym (placed-more qs e))
         ∙ areas-long (qs ++ e ∷ []) rest (split ∙ sym (append-assoc qs (e ∷ []) rest))) in
-        ap (λ (h : ℕ). backStored mode (pairPut B (getD places (tableOf h) 0) h at) o (word B at) at) half-hash
-        ∙ ap (λ (l : List ℕ). backStored mode l o (word B at) at) with-pair
-        ∙ ap (λ (i : ℕ). backStored mode (F ++ L ++ tail) o i at)
-        (id-word e (entry-there at e rest from-here) (id-small mode es qs rest e tail split fits ids))
-        ∙ linked mode es (placedIn qs) (nextOf qs e) F tail size (id-below mode es qs rest e tail split fits ids)
-        ∙ ap (λ (l : List Placed). upToEntries mode es ++ cat (areaWith (placedIn es) X l) (range 0 256) ++ backWords l (backSizeOf mode es) ++ tail)
+        ap (λ (l : List ℕ). backStored mode l o (e .id) at) with-pair
+        ∙ linked mode es (placedIn qs) (nextOf qs e) G tail size (id-below mode es qs rest e tail split fits ids)
+        ∙ ap (λ (l : List Placed). F ++ cat (areaWith (placedIn es) X l) (range 0 256) ++ backWords l (backSizeOf mode es) ++ tail)
         (sym (placed-more qs e))
 
-    pub half-places : Places (entriesEnd es) (placedIn es) (placedIn (qs ++ e ∷ []))
-        (advanced places (entryHash hashes (length qs) (halfway mode es X qs tail) (headSize + entriesSize qs) (length (e .name) + 1)))
+    pub half-places : Places (entriesEnd es) (placedIn es) (placedIn (qs ++ e ∷ [])) (advanced places (hashOf (e .name)))
     unfolding advanced
-    half-places = rw (half-hash, placed-more qs e) (record { many = length-set places u v ∙ next .many; each = λ t h. go t h (ℕ-discrete t u) })
+    half-places = rw (placed-more qs e) (record { many = length-set places u v ∙ next .many; each = λ t h. its-place t h (ℕ-discrete t u) })
       where
         u : ℕ
         u = tableOf (hashOf (e .name))
@@ -240,10 +195,10 @@ module _ (mode : Mode) (es : List Entry) (hashes X tail : List ℕ) (known : Fir
         there : getD places (tableOf (hashOf (e .name))) 0 ≡ entriesEnd es + 16 * entriesBefore (tableOf (hashOf (e .name))) (placedIn es) + 8 * count (tableOf (hashOf (e .name))) (placedIn qs)
         there = next .each (tableOf (hashOf (e .name))) (own-below mode es qs rest e tail split fits ids)
 
-        go : (t : ℕ) → t < 256 → Dec (t ≡ tableOf (hashOf (e .name)))
+        its-place : (t : ℕ) → t < 256 → Dec (t ≡ tableOf (hashOf (e .name)))
             → getD (set places (tableOf (hashOf (e .name))) ((getD places (tableOf (hashOf (e .name))) 0 + 8) % 4294967296)) t 0
             ≡ entriesEnd es + 16 * entriesBefore t (placedIn es) + 8 * count t (placedIn qs ++ nextOf qs e ∷ [])
-        go t h (yes y) =
+        its-place t h (yes y) =
             let w = tableOf (hashOf (e .name)) in
             let x = getD places w 0 + 8 in
             let below = own-below mode es qs rest e tail split fits ids in
@@ -253,37 +208,59 @@ module _ (mode : Mode) (es : List Entry) (hashes X tail : List ℕ) (known : Fir
             (getD-set-same places w (x % 4294967296) 0 (omega (arith, next .many))
             ∙ mod-eq-of-lt small
             ∙ omega (arith, there, count-own (placedIn es) X long (placedIn qs) (nextOf qs e)))
-        go t h (no z) =
+        its-place t h (no z) =
             let w = tableOf (hashOf (e .name)) in
             getD-set-other places w t ((getD places w 0 + 8) % 4294967296) 0 z
             ∙ next .each t h
             ∙ ap (λ (k : ℕ). entriesEnd es + 16 * entriesBefore t (placedIn es) + 8 * k)
             (sym (count-other (placedIn es) X long (placedIn qs) (nextOf qs e) t z))
 
+-- the entries that stand in the front are read and partitioned
+module _ (mode : Mode) (es : List Entry) (X tail : List ℕ) (long : length X ≡ 16 * length (placedIn es)) where
+  abbrev U : List ℕ
+  U = upToEntries mode es
+
+  module _ (qs rest : List Entry) (e : Entry) (split : es ≡ qs ++ e ∷ rest) (fits : imageSize mode es ≤ 4294967295)
+      (ids : All (λ (x : Entry). x .id < 2 ^ 32) es) where
+    from-here : At (halfway mode U es X qs tail) (headSize + entriesSize qs) (cat entryBytes (e ∷ rest))
+    unfolding halfway
+    from-here =
+        let R = cat (areaWith (placedIn es) X (placedIn qs)) (range 0 256) in
+        let L = backWords (placedIn qs) (backSizeOf mode es) in
+        entries-after es (e ∷ rest) qs (rw (append-assoc (U ++ R) L tail, append-assoc U R (L ++ tail)) (entries-in mode es (R ++ (L ++ tail)))) split
+
+    half-length : wholeLength (between (halfway mode U es X qs tail) (headSize + entriesSize qs) (entriesEnd es)) ≡ length (e .name) + 1
+    half-length =
+        length-there (headSize + entriesSize qs) e rest from-here (entriesEnd es) (ends-there mode es qs rest e tail split fits ids)
+        (name-short mode es qs rest e tail split fits ids)
+
+    half-hash : hashAt (halfway mode U es X qs tail) (headSize + entriesSize qs) (length (e .name) + 1) ≡ hashOf (e .name)
+    unfolding hashAt
+    half-hash = ap hashOf (name-there (headSize + entriesSize qs) e rest from-here)
+
+    half-id : word (halfway mode U es X qs tail) (headSize + entriesSize qs) ≡ e .id
+    half-id = id-word e (entry-there (headSize + entriesSize qs) e rest from-here) (id-small mode es qs rest e tail split fits ids)
+
   pub half-walked : imageSize mode es ≤ 4294967295 → All (λ (x : Entry). x .id < 2 ^ 32) es → (rest qs : List Entry) → es ≡ qs ++ rest → (places : List ℕ)
       → Places (entriesEnd es) (placedIn es) (placedIn qs) places
-      → partitionedFrom mode (backOffset mode es) (entriesEnd es) hashes (length rest) (length qs) (headSize + entriesSize qs) places (halfway mode es X qs tail)
-      ≡ halfway mode es X es tail
+      → partitionedFrom mode (backOffset mode es) (entriesEnd es) (length rest) (headSize + entriesSize qs) places (halfway mode (upToEntries mode es) es X qs tail)
+      ≡ halfway mode (upToEntries mode es) es X es tail
   unfolding partitionedFrom
-  half-walked fits ids [] qs split places next = ap (λ (l : List Entry). halfway mode es X l tail) (sym (split ∙ append-nil qs))
+  half-walked fits ids [] qs split places next = ap (λ (l : List Entry). halfway mode U es X l tail) (sym (split ∙ append-nil qs))
   half-walked fits ids (e ∷ rest) qs split places next =
-      let i = length qs in
       let at = headSize + entriesSize qs in
-      let H = halfway mode es X qs tail in
+      let H = halfway mode U es X qs tail in
       let o = backOffset mode es in
       let end = entriesEnd es in
       let n = length (e .name) + 1 in
-      let advanced′ = advanced places (entryHash hashes i H at n) in
-      ap
-      (λ (k : ℕ). cond (eqb k 0) H
-      (partitionedFrom mode o end hashes (length rest) (i + 1) (at + (8 + k)) (advanced places (entryHash hashes i H at k))
-      (partitioned mode o places H at (entryHash hashes i H at k))))
-      (half-length qs rest e split fits ids places next)
-      ∙ ap
-      (λ (b : Bool). cond b H
-      (partitionedFrom mode o end hashes (length rest) (i + 1) (at + (8 + n)) advanced′ (partitioned mode o places H at (entryHash hashes i H at n))))
-      (ne-eqb n 0 (λ z. omega arith))
-      ∙ ap (λ (l : List ℕ). partitionedFrom mode o end hashes (length rest) (i + 1) (at + (8 + n)) advanced′ l) (half-step qs rest e split fits ids places next)
-      ∙ ap₂ (λ (j k : ℕ). partitionedFrom mode o end hashes (length rest) j k advanced′ (halfway mode es X (qs ++ e ∷ []) tail))
-      (sym (length-append qs (e ∷ []))) (next-at qs e)
-      ∙ half-walked fits ids rest (qs ++ e ∷ []) (split ∙ sym (append-assoc qs (e ∷ []) rest)) advanced′ (half-places qs rest e split fits ids places next)
+      let h = hashOf (e .name) in
+      let m = length rest in
+      let later : ℕ → ℕ → ℕ → List ℕ = λ k i x. partitionedFrom mode o end m (at + (8 + k)) (advanced places x) (partitioned mode o places H at i x) in
+      ap (λ (k : ℕ). cond (eqb k 0) H (later k (word H at) (hashAt H at k))) (half-length qs rest e split fits ids)
+      ∙ ap (λ (b : Bool). cond b H (later n (word H at) (hashAt H at n))) (ne-eqb n 0 (λ z. omega arith))
+      ∙ ap₂ (λ (i x : ℕ). later n i x) (half-id qs rest e split fits ids) (half-hash qs rest e split fits ids)
+      ∙ ap (λ (l : List ℕ). partitionedFrom mode o end m (at + (8 + n)) (advanced places h) l)
+      (half-step mode U es X tail (length-upToEntries mode es) long qs rest e split fits ids places next)
+      ∙ ap (λ (k : ℕ). partitionedFrom mode o end m k (advanced places h) (halfway mode U es X (qs ++ e ∷ []) tail)) (next-at qs e)
+      ∙ half-walked fits ids rest (qs ++ e ∷ []) (split ∙ sym (append-assoc qs (e ∷ []) rest)) (advanced places h)
+      (half-places mode U es X tail (length-upToEntries mode es) long qs rest e split fits ids places next)

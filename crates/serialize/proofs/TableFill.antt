@@ -3,75 +3,86 @@
 use Prim.Native.Nat.{ℕ, zero, suc, _+_, _-_, _*_, _/_, _%_, _^_, _≤_, _<_}
 use native.Mathlib.Omega.{arith}
 use native.Mathlib.Nat.{mod-lt}
-use mathlib.Core.Path.{_≡_, refl, sym, ap, ap₂, _∙_}
-use mathlib.Core.Bool.{Bool, true, false, cond}
+use native.Mathlib.Decide.{ℕ-discrete}
+use mathlib.Core.Path.{_≡_, refl, sym, ap, ap₂, subst, _∙_}
+use mathlib.Core.Bool.{Bool, true, false, cond, _||_}
 use mathlib.Core.List.{List, [], _∷_, _++_, append-nil}
-use lib.ListN.{length, getD, take, drop, replicate, length-drop, length-replicate}
-use lib.Seq.{sets, sets-eq, length-sets, length-take-le, take-append-seam}
+use lib.ListN.{length, getD, set, take, drop, replicate, length-replicate, length-append, length-set}
+use lib.Seq.{sets, sets-eq, length-sets, length-take-le, getD-set-same, getD-set-other}
 use lib.Dec.{leb}
-use borrow.Author.Tests.{leb-true}
-use Rattle.image.specs.Bytes.{word, cat}
-use Rattle.image.specs.Tables.{Bucket, empty, start, probeSequence, firstEmpty, atOf, insert, insertAll, filled}
+use borrow.Author.Tests.{le-leb, lt-leb}
+use Rattle.image.specs.Bytes.{word, le32, cat}
+use Rattle.image.specs.Tables.{Bucket, empty, start, probeSequence, firstEmpty, atOf, insert, insertAll, filled, Filled as TableIs}
 use Rattle.image.specs.Image.{bucketBytes}
-use Rattle.image.proofs.Bools.{and-first, and-second}
-use Rattle.image.proofs.Words.{word-drop}
-use Rattle.image.proofs.Between.{word-same}
+use Rattle.image.proofs.Bools.{or-false-first, or-false-second}
+use Rattle.image.proofs.Between.{take-sets}
 use Rattle.image.proofs.Lists.{length-cat}
 use Rattle.image.proofs.Sizes.{length-bucketBytes, length-filled, filled-more}
 use Rattle.image.proofs.Stores.{sets-whole, sets-part}
-use Rattle.image.proofs.AllOfList.{All, all-append}
+use Rattle.image.proofs.AllOfList.{All, all-append, all-map}
 use Rattle.image.proofs.Buckets.{filled-all, firstEmpty-ext}
 use Rattle.image.proofs.At.{At, at-whole, at-same, at-equal, at-left, at-right, at-word, at-second, at-part}
-use Rattle.serialize.specs.steps.Insertion.{inserted, PairInserted}
-use Rattle.serialize.specs.steps.Partition.{pairsStored, tableStored, copyable, tableFilled}
+use Rattle.lookup_laws.proofs.SlotSearch.{none-equal}
+use Rattle.serialize.specs.steps.Insertion.{inserted}
+use Rattle.serialize.specs.steps.Meeting.{Pairwise, sameNames, OtherNames, Apart, bucketAt, PairInserted, PairsInserted, TableDone}
+use Rattle.serialize.specs.steps.Partition.{pairsStored, pairsIn, PairsCopied, tableStored, tableFilled}
 use Rattle.serialize.proofs.PartialImage.{zeros-buckets}
 use Rattle.serialize.proofs.EntryAdded.{firstEmpty-below}
 use Rattle.serialize.proofs.InsertStep.{store-in}
+use Rattle.serialize.proofs.Insertion.{not-met}
+use Rattle.serialize.proofs.Pairwise.{all-before, pairwise-more}
 
 -- ---- the copy
 
 abbrev pairOf : ℕ → ℕ → Bucket
 pairOf h at = record { hash = h; at = at }
 
-pairs-suc : (buf : List ℕ) (o c : ℕ) → pairsStored buf o (suc c) ≡ pairsStored buf o c ++ (pairOf (word buf (o + 8 * c)) (word buf (o + 8 * c + 4)) ∷ [])
-unfolding pairsStored
-pairs-suc buf o c = refl
+pairs-suc : (copy : List ℕ) (c : ℕ) → pairsIn copy (suc c) ≡ pairsIn copy c ++ (pairOf (getD copy (2 * c) 0) (getD copy (2 * c + 1) 0) ∷ [])
+unfolding pairsIn
+pairs-suc copy c = refl
 
--- the pairs are in a copy of their bytes
-module _ (buf copy : List ℕ) (o c : ℕ) (inside : o + 8 * c ≤ length buf) (fits : 8 * c ≤ length copy) where
-  bytes : List ℕ
-  bytes = take (o + 8 * c - o) (drop o buf)
+length-pairs : (copy : List ℕ) (c : ℕ) → length (pairsIn copy c) ≡ c
+unfolding pairsIn
+length-pairs copy zero = refl
+length-pairs copy (suc c) = length-append (pairsIn copy c) _ ∙ one (length (pairsIn copy c)) c (length-pairs copy c)
+  where
+    one : (a b : ℕ) → a ≡ b → a + 1 ≡ suc b
+    one a b e = omega arith
 
-  same : take (8 * c) (sets copy 0 bytes) ≡ take (8 * c) (drop o buf)
-  unfolding bytes
-  same =
-      let n : o + 8 * c - o ≡ 8 * c = omega arith in
-      let long : length (take (8 * c) (drop o buf)) ≡ 8 * c = length-take-le (8 * c) (drop o buf) (omega (arith, length-drop o buf)) in
-      ap (λ (k : ℕ). take (8 * c) (sets copy 0 (take k (drop o buf)))) n
-      ∙ ap (take (8 * c)) (sets-eq (take (8 * c) (drop o buf)) copy 0 (omega arith))
-      ∙ ap (λ (k : ℕ). take k (take (8 * c) (drop o buf) ++ drop (0 + length (take (8 * c) (drop o buf))) copy)) (sym long)
-      ∙ take-append-seam (take (8 * c) (drop o buf)) (drop (0 + length (take (8 * c) (drop o buf))) copy)
+-- the pairs are in a copy of their words
+pub pairs-copied : {copy buf : List ℕ} {o c : ℕ} → PairsCopied copy buf o c → (k : ℕ) → k ≤ c → pairsIn copy k ≡ pairsStored buf o k
+unfolding pairsIn pairsStored
+pairs-copied told zero h = refl
+pairs-copied {copy} {buf} {o} told (suc k) h =
+    ap (λ (r : List Bucket). r ++ (pairOf (getD copy (2 * k) 0) (getD copy (2 * k + 1) 0) ∷ [])) (pairs-copied told k (omega arith))
+    ∙ ap₂ (λ (i : ℕ) (j : ℕ). pairsStored buf o k ++ (pairOf i j ∷ [])) (told .first k (omega arith)) (told .second k (omega arith))
 
-  word-copied : (i : ℕ) → i + 4 ≤ 8 * c → word (sets copy 0 bytes) i ≡ word buf (o + i)
-  unfolding bytes
-  word-copied i h = word-same (sets copy 0 bytes) (drop o buf) (8 * c) same i h ∙ word-drop buf o i
+-- a turn of copying
+module _ {copy buf : List ℕ} {o i : ℕ} (told : PairsCopied copy buf o i) (room : 2 * (i + 1) ≤ length copy) {h at : ℕ} (eh : h ≡ word buf (o + 8 * i))
+    (ea : at ≡ word buf (o + 8 * i + 4)) where
+  abbrev after : List ℕ
+  after = set (set copy (2 * i) h) (2 * i + 1) at
 
-  copied-to : (k : ℕ) → k ≤ c → pairsStored (sets copy 0 bytes) 0 k ≡ pairsStored buf o k
-  unfolding pairsStored
-  copied-to zero h = refl
-  copied-to (suc k) h =
-      let a : 0 + 8 * k ≡ 8 * k = omega arith in
-      let b : 0 + 8 * k + 4 ≡ 8 * k + 4 = omega arith in
-      let d : o + (8 * k + 4) ≡ o + 8 * k + 4 = omega arith in
-      let x : word (sets copy 0 bytes) (0 + 8 * k) ≡ word buf (o + 8 * k) = ap (word (sets copy 0 bytes)) a ∙ word-copied (8 * k) (omega arith) in
-      let y : word (sets copy 0 bytes) (0 + 8 * k + 4) ≡ word buf (o + 8 * k + 4) =
-      ap (word (sets copy 0 bytes)) b ∙ word-copied (8 * k + 4) (omega arith) ∙ ap (word buf) d in
-      ap (λ (r : List Bucket). r ++ (pairOf (word (sets copy 0 bytes) (0 + 8 * k)) (word (sets copy 0 bytes) (0 + 8 * k + 4)) ∷ [])) (copied-to k (omega arith))
-      ∙ ap₂ (λ (i : ℕ) (j : ℕ). pairsStored buf o k ++ (pairOf i j ∷ [])) x y
+  kept : (j : ℕ) → (j ≡ 2 * i → ⊥) → (j ≡ 2 * i + 1 → ⊥) → getD after j 0 ≡ getD copy j 0
+  kept j p q = getD-set-other (set copy (2 * i) h) (2 * i + 1) j at 0 q ∙ getD-set-other copy (2 * i) j h 0 p
 
-  pub pairs-copied : {copy′ : List ℕ} → copy′ ≡ sets copy 0 (take (o + 8 * c - o) (drop o buf)) → pairsStored copy′ 0 c ≡ pairsStored buf o c
-  unfolding bytes
-  pairs-copied e = ap (λ (l : List ℕ). pairsStored l 0 c) e ∙ copied-to c (omega arith)
+  pub copy-step : PairsCopied (set (set copy (2 * i) h) (2 * i + 1) at) buf o (i + 1)
+  copy-step =
+      record {
+        first = λ j l. elim (ℕ-discrete j i) [
+          | yes e ↦
+              rw e
+              (getD-set-other (set copy (2 * i) h) (2 * i + 1) (2 * i) at 0 (λ z. omega arith)
+              ∙ getD-set-same copy (2 * i) h 0 (omega arith)
+              ∙ eh)
+          | no e ↦ kept (2 * j) (λ z. e (omega arith)) (λ z. omega arith) ∙ told .first j (omega (arith, e))
+        ];
+        second = λ j l. elim (ℕ-discrete j i) [
+          | yes e ↦
+              rw e (getD-set-same (set copy (2 * i) h) (2 * i + 1) at 0 (omega (arith, length-set copy (2 * i) h)) ∙ ea)
+          | no e ↦ kept (2 * j + 1) (λ z. omega arith) (λ z. e (omega arith)) ∙ told .second j (omega (arith, e))
+        ];
+      }
 
 -- ---- bytes stored within a run of bytes
 
@@ -107,6 +118,22 @@ module _ (buf T-buf : List ℕ) (T : List Bucket) (o n : ℕ) (long : length T �
       (at-part bucketBytes 8 length-bucketBytes o T k empty (stored-at buf (cat bucketBytes T) o (omega (arith, size))) (rw long h)))
       (small k)
 
+  seen-hash : ((k : ℕ) → getD T k empty .hash < 2 ^ 32) → (k : ℕ) → k < n → word (sets buf o (cat bucketBytes T)) (o + 8 * k) ≡ getD T k empty .hash
+  unfolding bucketBytes
+  seen-hash hashes k h =
+      let b = getD T k empty in
+      at-word (b .hash)
+      (at-left (le32 (b .hash)) (le32 (b .at))
+      (at-part bucketBytes 8 length-bucketBytes o T k empty (stored-at buf (cat bucketBytes T) o (omega (arith, size))) (rw long h)))
+      (hashes k)
+
+  -- the buckets that stand there
+  pub buckets-are : ((k : ℕ) → getD T k empty .hash < 2 ^ 32) → (k : ℕ) → k < n → bucketAt T-buf o k ≡ getD T k empty
+  buckets-are hashes k h =
+      let p : word T-buf (o + 8 * k) ≡ getD T k empty .hash = ap (λ (l : List ℕ). word l (o + 8 * k)) is ∙ seen-hash hashes k h in
+      let q : word T-buf (o + 8 * k + 4) ≡ getD T k empty .at = ap (λ (l : List ℕ). word l (o + 8 * k + 4)) is ∙ seen k h in
+      λ i. record { hash = p i; at = q i }
+
   pub area-step : (h at : ℕ) (buf′ : List ℕ) → buf′ ≡ inserted T-buf o n h at
       → buf′ ≡ sets buf o (cat bucketBytes (insert n T (record { hash = h; at = at })))
   unfolding inserted insert bucketBytes
@@ -126,14 +153,19 @@ module _ (buf T-buf : List ℕ) (T : List Bucket) (o n : ℕ) (long : length T �
 -- ---- a table from its pairs
 
 abbrev pub Small : List Bucket → Type 0
-Small bs = All (λ (b : Bucket). b .at < 2 ^ 32) bs
+Small bs = All (λ (b : Bucket). (b .hash < 2 ^ 32) × (b .at < 2 ^ 32)) bs
 
 -- i of the pairs are in the table of c entries at o
 pub record Filled (buf₀ pairs : List ℕ) (o c i : ℕ) (buf : List ℕ) : Type 0 where
   pub few : i ≤ c
   pub long : length buf ≡ length buf₀
-  pub is : buf ≡ tableStored buf₀ o c (pairsStored pairs 0 i)
-  pub small : Small (pairsStored pairs 0 i)
+  pub is : buf ≡ tableStored buf₀ o c (pairsIn pairs i)
+  pub small : Small (pairsIn pairs i)
+
+-- the same, and if no entries of equal name met, the pairs are apart
+pub record Filling (buf₀ pairs : List ℕ) (end o c i : ℕ) (buf : List ℕ) (met : Bool) : Type 0 where
+  pub table : Filled buf₀ pairs o c i buf
+  pub apart : met ≡ false → Apart (take end buf₀) (pairsIn pairs i)
 
 -- the table of c entries at o in cleared bytes
 module _ (base : List ℕ) (o c : ℕ) (inside : o + 16 * c ≤ length base) (buf₀ : List ℕ) (e : buf₀ ≡ sets base o (replicate (o + 16 * c - o) 0)) where
@@ -158,7 +190,7 @@ module _ (base : List ℕ) (o c : ℕ) (inside : o + 16 * c ≤ length base) (bu
       ∙ ap (sets base o) (sets-whole vs zeros [] (h ∙ sym n) ∙ append-nil vs)
 
   pub fill-start : (pairs : List ℕ) → Filled buf₀ pairs o c 0 buf₀
-  unfolding pairsStored filled insertAll zeros
+  unfolding pairsIn filled insertAll zeros
   fill-start pairs =
       let T : List Bucket = replicate (2 * c) empty in
       let n : length (cat bucketBytes T) ≡ 16 * c =
@@ -171,61 +203,109 @@ module _ (base : List ℕ) (o c : ℕ) (inside : o + 16 * c ≤ length base) (bu
         small = tt;
       }
 
-  pub fill-end : {pairs : List ℕ} {i : ℕ} {buf : List ℕ} → Filled buf₀ pairs o c i buf → c ≤ i → buf ≡ tableStored base o c (pairsStored pairs 0 c)
+  pub fill-end : {pairs : List ℕ} {i : ℕ} {buf : List ℕ} → Filled buf₀ pairs o c i buf → c ≤ i → buf ≡ tableStored base o c (pairsIn pairs c)
   fill-end {pairs} {i} f l =
       let k : i ≡ c = omega (arith, f .few) in
-      let T = filled (2 * c) (pairsStored pairs 0 c) in
+      let T = filled (2 * c) (pairsIn pairs c) in
       let n : length (cat bucketBytes T) ≡ 16 * c =
-      omega (arith, length-cat bucketBytes 8 length-bucketBytes T, length-filled (2 * c) (pairsStored pairs 0 c)) in
-      f .is ∙ ap (λ (j : ℕ). tableStored buf₀ o c (pairsStored pairs 0 j)) k ∙ over (cat bucketBytes T) n
+      omega (arith, length-cat bucketBytes 8 length-bucketBytes T, length-filled (2 * c) (pairsIn pairs c)) in
+      f .is ∙ ap (λ (j : ℕ). tableStored buf₀ o c (pairsIn pairs j)) k ∙ over (cat bucketBytes T) n
 
-pub fill-step : {buf₀ pairs : List ℕ} {o c i : ℕ} {buf buf′ : List ℕ} → Filled buf₀ pairs o c i buf → o + 16 * c ≤ length buf₀ → i < c
-    → (h at : ℕ) → h ≡ word pairs (8 * i) → at ≡ word pairs (8 * i + 4) → length buf′ ≡ length buf → PairInserted buf o (2 * c) h at buf′
-    → Filled buf₀ pairs o c (i + 1) buf′
-fill-step {buf₀} {pairs} {o} {c} {i} {buf} {buf′} f inside l h at eh ea sized done =
-    let n = 2 * c in
-    let P = pairsStored pairs 0 i in
-    let T = filled n P in
-    let b = pairOf h at in
-    let s : suc i ≡ i + 1 = omega arith in
-    let x : 8 * i ≡ 0 + 8 * i = omega arith in
-    let y : 8 * i + 4 ≡ 0 + 8 * i + 4 = omega arith in
-    let more : P ++ (b ∷ []) ≡ pairsStored pairs 0 (i + 1) =
-    ap₂ (λ (v : ℕ) (w : ℕ). P ++ (pairOf v w ∷ [])) (eh ∙ ap (word pairs) x) (ea ∙ ap (word pairs) y)
-    ∙ sym (pairs-suc pairs 0 i) ∙ ap (pairsStored pairs 0) s in
-    let smallT : (k : ℕ) → atOf T k < 2 ^ 32 = filled-all (λ (q : Bucket). q .at < 2 ^ 32) n P (omega arith) (f .small) in
-    record {
-      few = omega arith;
-      long = sized ∙ f .long;
-      is =
-          area-step buf₀ buf T o n (length-filled n P) (omega arith) (omega arith) smallT (f .is) h at buf′ (done .stored)
-          ∙ ap (λ (r : List Bucket). sets buf₀ o (cat bucketBytes r)) (sym (filled-more n P b) ∙ ap (filled n) more);
-      small = rw (← more) (all-append (λ (q : Bucket). q .at < 2 ^ 32) P (b ∷ []) (f .small) (done .offset-word, tt));
-    }
+  pub filling-start : (end : ℕ) (pairs : List ℕ) → Filling buf₀ pairs end o c 0 buf₀ false
+  unfolding pairsIn
+  filling-start end pairs = record { table = fill-start pairs; apart = λ z full. tt }
 
--- ---- which tables are filled over the copy
-
--- what the test says
-pub record Copyable (buf : List ℕ) (o c : ℕ) : Type 0 where
-  pub inside : o + 16 * c ≤ length buf
-  pub few : c ≤ 4608
-
-module _ (buf : List ℕ) (o c : ℕ) {b : Bool} (is : b ≡ copyable buf o c) where
-  pub copy-fits : b ≡ true → Copyable buf o c
-  copy-fits holds =
-      let a = leb (o + 16 * c) (length buf) in
+  pub filling-end : {end : ℕ} → end ≤ o → {pairs : List ℕ} {i : ℕ} {buf : List ℕ} {met : Bool} → Filling buf₀ pairs end o c i buf met → c ≤ i
+      → PairsInserted base end o c pairs buf met
+  unfolding zeros
+  filling-end {end} behind {pairs} {i} f l =
+      let k : i ≡ c = omega (arith, f .table .few) in
       record {
-        inside = leb-true (o + 16 * c) (length buf) (and-first a (leb c 4608) (sym is ∙ holds));
-        few = leb-true c 4608 (and-second a (leb c 4608) (sym is ∙ holds));
+        leaves = fill-end (f .table) l;
+        apart = λ z. subst (λ (g : List ℕ). Apart g (pairsIn pairs c)) (ap (take end) e ∙ take-sets zeros base end o behind)
+            (subst (λ (j : ℕ). Apart (take end buf₀) (pairsIn pairs j)) k (f .apart z));
       }
 
-  pub table-left : b ≡ false → buf ≡ tableFilled buf o c
-  unfolding tableFilled
-  table-left lacks = rw (sym is ∙ lacks)
+module _ {buf₀ pairs : List ℕ} {o c i : ℕ} {buf : List ℕ} (f : Filled buf₀ pairs o c i buf) (inside : o + 16 * c ≤ length buf₀) (l : i < c)
+    (h at : ℕ) (eh : h ≡ getD pairs (2 * i) 0) (ea : at ≡ getD pairs (2 * i + 1) 0) where
+  abbrev n : ℕ
+  n = 2 * c
 
-  pub table-filled : b ≡ true → (pairs : List ℕ) {buf′ : List ℕ} → pairsStored pairs 0 c ≡ pairsStored buf o c → buf′ ≡ tableStored buf o c (pairsStored pairs 0 c)
-      → buf′ ≡ tableFilled buf o c
+  abbrev P : List Bucket
+  P = pairsIn pairs i
+
+  abbrev T : List Bucket
+  T = filled n P
+
+  more : P ++ (pairOf h at ∷ []) ≡ pairsIn pairs (i + 1)
+  more =
+      let s : suc i ≡ i + 1 = omega arith in
+      ap₂ (λ (v : ℕ) (w : ℕ). P ++ (pairOf v w ∷ [])) eh ea ∙ sym (pairs-suc pairs i) ∙ ap (pairsIn pairs) s
+
+  words : (k : ℕ) → (getD T k empty .hash < 2 ^ 32) × (getD T k empty .at < 2 ^ 32)
+  words = filled-all (λ (q : Bucket). (q .hash < 2 ^ 32) × (q .at < 2 ^ 32)) n P (omega arith, omega arith) (f .small)
+
+  module _ {end : ℕ} {buf′ : List ℕ} {met : Bool} (done : PairInserted buf end o (2 * c) h at buf′ met) where
+    pub fill-step : length buf′ ≡ length buf → Filled buf₀ pairs o c (i + 1) buf′
+    fill-step sized =
+        let b = pairOf h at in
+        record {
+          few = omega arith;
+          long = sized ∙ f .long;
+          is =
+              area-step buf₀ buf T o n (length-filled n P) (omega arith) (omega arith) (λ k. words k .1) (f .is) h at buf′ (done .stored)
+              ∙ ap (λ (r : List Bucket). sets buf₀ o (cat bucketBytes r)) (sym (filled-more n P b) ∙ ap (filled n) more);
+          small = rw (← more) (all-append (λ (q : Bucket). (q .hash < 2 ^ 32) × (q .at < 2 ^ 32)) P (b ∷ []) (f .small) ((done .hash-word, done .offset-word), tt));
+        }
+
+    -- a pair whose search met no entry of equal name
+    pub apart-step : end ≤ o → met ≡ false → Apart (take end buf₀) P → Apart (take end buf₀) (pairsIn pairs (i + 1))
+    apart-step behind z apart full =
+        let b = pairOf h at in
+        let front : take end buf ≡ take end buf₀ = ap (take end) (f .is) ∙ take-sets (cat bucketBytes T) buf₀ end o behind in
+        let fulls : All (λ (q : Bucket). q .at ≡ 0 → ⊥) P = all-before (λ (q : Bucket). q .at ≡ 0 → ⊥) P (b ∷ []) (rw (← more) at full) in
+        let table : TableIs n (bucketAt buf o) P =
+        record { each = buckets-are buf₀ buf T o n (length-filled n P) (omega arith) (omega arith) (λ k. words k .1) (f .is) (λ k. words k .0) } in
+        let other : All (λ (x : Bucket). x .hash ≡ h → sameNames (take end buf) at (x .at) ≡ false) P =
+        none-equal table (omega arith) h (sameNames (take end buf) at) (omega (arith, length-pairs pairs i)) fulls (done .unmet z) in
+        subst (λ (bs : List Bucket). Pairwise (OtherNames (take end buf₀)) bs) more
+        (pairwise-more (OtherNames (take end buf₀)) P b (apart fulls) (subst (λ (g : List ℕ). All (λ (x : Bucket). x .hash ≡ h → sameNames g at (x .at) ≡ false) P) front other))
+
+pub filling-step : {buf₀ pairs : List ℕ} {end o c i : ℕ} {buf buf′ : List ℕ} {met one : Bool} → Filling buf₀ pairs end o c i buf met → end ≤ o
+    → o + 16 * c ≤ length buf₀ → i < c → (h at : ℕ) → h ≡ getD pairs (2 * i) 0 → at ≡ getD pairs (2 * i + 1) 0 → length buf′ ≡ length buf
+    → PairInserted buf end o (2 * c) h at buf′ one → Filling buf₀ pairs end o c (i + 1) buf′ (met || one)
+filling-step {met = met} {one = one} f behind inside l h at eh ea sized done =
+    record {
+      table = fill-step (f .table) inside l h at eh ea done sized;
+      apart = λ z. apart-step (f .table) inside l h at eh ea done behind (or-false-second met one z) (f .apart (or-false-first met one z));
+    }
+
+-- ---- the table, as the code goes
+
+module _ (buf : List ℕ) (end o c : ℕ) where
+  -- without entries
+  pub table-none : c ≡ 0 → TableDone buf end o c buf false
+  unfolding tableFilled pairsStored filled insertAll cat
+  table-none z =
+      subst (λ (n : ℕ). TableDone buf end o n buf false) (sym z) (record { leaves = go (leb (o + 16 * 0) (length buf)); apart = λ e full. tt })
+    where
+      go : (b : Bool) → buf ≡ cond b (sets buf o []) buf
+      go true = refl
+      go false = refl
+
+  -- not in the buffer
+  pub table-left : length buf < o + 16 * c → TableDone buf end o c buf true
   unfolding tableFilled
-  table-filled holds pairs l e =
-      e ∙ ap (tableStored buf o c) l
-      ∙ sym (ap (λ (t : Bool). cond t (tableStored buf o c (pairsStored buf o c)) buf) (sym is ∙ holds))
+  table-left h = record { leaves = rw (lt-leb (o + 16 * c) (length buf) h); apart = not-met }
+
+  pub table-filled : o + 16 * c ≤ length buf → {pairs buf′ : List ℕ} {met : Bool} → PairsCopied pairs buf o c
+      → PairsInserted buf end o c pairs buf′ met → TableDone buf end o c buf′ met
+  unfolding tableFilled
+  table-filled h copied done =
+      let l = pairs-copied copied c (omega arith) in
+      record {
+        leaves =
+            done .leaves ∙ ap (tableStored buf o c) l
+            ∙ sym (ap (λ (t : Bool). cond t (tableStored buf o c (pairsStored buf o c)) buf) (le-leb (o + 16 * c) (length buf) h));
+        apart = λ z. subst (Apart (take end buf)) l (done .apart z);
+      }

@@ -5,32 +5,28 @@ use native.Mathlib.Decide.{decLt}
 use mathlib.Core.Path.{_≡_, refl, sym, ap, ap₂, _∙_}
 use mathlib.Core.Bool.{Bool, true, false, cond}
 use mathlib.Core.List.{List, [], _++_, map, append-nil, append-assoc}
-use lib.ListN.{length, getD, replicate, length-append, length-map}
-use lib.Seq.{sets}
+use lib.ListN.{length, take, replicate, length-append, length-map}
+use lib.Seq.{sets, take-append-seam}
 use lib.Dec.{ltb, leb}
-use borrow.Author.Tests.{le-leb, leb-true, lt-ltb, le-ltb}
+use borrow.Author.Tests.{le-leb, lt-ltb, le-ltb}
 use Rattle.jhash.proofs.Outcomes.{hashOf-below}
 use Rattle.image.specs.Bytes.{cat, range}
 use Rattle.image.specs.Tables.{Bucket, filled}
 use Rattle.image.specs.Image.{Entry, Placed, headSize, entriesSize, placed, inTable, ofTable, count, bucketOf, bucketBytes, table, tableBytes, tables}
 use Rattle.image.specs.Image.{entriesBefore, backWords, backSizeOf, backOffset, entriesEnd, imageSize, image}
 use Rattle.image.specs.declared.Mode.{Mode}
-use Rattle.image.proofs.AllOfRange.{all-each}
-use Rattle.image.proofs.Bools.{and-both}
 use Rattle.image.proofs.Lists.{cat-ext, cat-run}
 use Rattle.image.proofs.Sizes.{length-placed, length-tableBytes, before-suc}
 use Rattle.image.proofs.Stores.{sets-whole}
 use Rattle.image.proofs.AllOfList.{All, all-filter, all-image}
 use Rattle.image.proofs.At.{At, at-same, at-equal, at-left, at-right}
 use Rattle.image.proofs.Parts.{placedIn, before-most}
-use Rattle.serialize.specs.Record.{noneAbove}
-use Rattle.serialize.specs.steps.Preconditions.{FirstHashes}
-use Rattle.serialize.specs.steps.Partition.{tableOffsetsFrom, partitionedFrom, pairsStored, copyable, tableFilled, tablesFrom, insertedByTables}
+use Rattle.serialize.specs.steps.Partition.{tableOffsetsFrom, partitionedFrom, pairsStored, tableFilled, tablesFrom}
 use Rattle.serialize.proofs.HeadRows.{Counts}
 use Rattle.serialize.proofs.PartialImage.{upToEntries, length-upToEntries}
 use Rattle.serialize.proofs.InsertStep.{offsets, store-in}
 use Rattle.serialize.proofs.TableAreas.{Words, areaWith, pairsOf, length-areas, area-at, area-set, length-areaWith, areas-none, pairs-read}
-use Rattle.serialize.proofs.Partitioned.{halfway, places-begin, half-walked}
+use Rattle.serialize.proofs.Partitioned.{Places, halfway, places-begin, half-walked}
 
 -- the first t tables are filled, the others hold their pairs
 unfoldable pub filling : List Placed → List ℕ → ℕ → ℕ → List ℕ
@@ -41,13 +37,21 @@ filledTo mode es X t tail =
     upToEntries mode es ++ cat (filling (placedIn es) X t) (range 0 256) ++ backWords (placedIn es) (backSizeOf mode es) ++ tail
 
 module _ (mode : Mode) (es : List Entry) (X tail : List ℕ) (long : length X ≡ 16 * length (placedIn es)) where
-  pub filled-first : halfway mode es X es tail ≡ filledTo mode es X 0 tail
+  pub filled-first : halfway mode (upToEntries mode es) es X es tail ≡ filledTo mode es X 0 tail
   unfolding halfway filledTo filling
   filled-first =
       let ps = placedIn es in
       ap (λ (l : List ℕ). upToEntries mode es ++ l ++ backWords ps (backSizeOf mode es) ++ tail)
       (cat-ext (areaWith ps X ps) (filling ps X 0)
       (λ i. sym (ap (λ (b : Bool). cond b (tableBytes ps i) (areaWith ps X ps i)) (le-ltb i 0 (omega arith)))) (range 0 256))
+
+  pub front-filled : take (entriesEnd es) (filledTo mode es X 0 tail) ≡ upToEntries mode es
+  unfolding filledTo
+  front-filled =
+      let U = upToEntries mode es in
+      let R = cat (filling (placedIn es) X 0) (range 0 256) in
+      let L = backWords (placedIn es) (backSizeOf mode es) in
+      ap₂ take (sym (length-upToEntries mode es)) (append-assoc (U ++ R) L tail ∙ append-assoc U R (L ++ tail)) ∙ take-append-seam U (R ++ (L ++ tail))
 
   pub filled-last : filledTo mode es X 256 tail ≡ upToEntries mode es ++ tables (placedIn es) ++ backWords (placedIn es) (backSizeOf mode es) ++ tail
   unfolding filledTo filling tables
@@ -65,7 +69,7 @@ module _ (mode : Mode) (es : List Entry) (X tail : List ℕ) (long : length X �
       go true = length-tableBytes (placedIn es) i
       go false = length-areaWith (placedIn es) X long (placedIn es) i h (omega arith)
 
-  tables-long : (t : ℕ) → length (cat (filling (placedIn es) X t) (range 0 256)) ≡ 16 * length es
+  pub tables-long : (t : ℕ) → length (cat (filling (placedIn es) X t) (range 0 256)) ≡ 16 * length es
   tables-long t =
       length-areas (placedIn es) (filling (placedIn es) X t) (sized t) ∙ ap (λ (n : ℕ). 16 * n) (length-placed headSize es)
 
@@ -108,6 +112,10 @@ module _ (mode : Mode) (es : List Entry) (X tail : List ℕ) (long : length X �
     unfolding bs
     pairs-read-there = pairs-read o bs pairs-there words (count t ps) (sym (length-map (ofTable t ps) bucketOf))
 
+    pub pairs-are : pairsStored (filledTo mode es X t tail) (entriesEnd es + 16 * entriesBefore t (placedIn es)) (count t (placedIn es)) ≡ map bucketOf (ofTable t (placedIn es))
+    unfolding B o ps bs
+    pairs-are = pairs-read-there
+
     later : (k : ℕ) → (k ≡ t → ⊥) → filling ps X t k ≡ filling ps X (suc t) k
     unfolding filling
     later k z =
@@ -132,10 +140,9 @@ module _ (mode : Mode) (es : List Entry) (X tail : List ℕ) (long : length X �
         done =
             ap (λ (b : Bool). cond b (tableBytes (placedIn es) t) (areaWith (placedIn es) X (placedIn es) t)) (lt-ltb t (suc t) (omega arith))
 
-    pub table-step : count t (placedIn es) ≤ 4608
-        → tableFilled (filledTo mode es X t tail) (entriesEnd es + 16 * entriesBefore t (placedIn es)) (count t (placedIn es)) ≡ filledTo mode es X (suc t) tail
+    pub table-step : tableFilled (filledTo mode es X t tail) (entriesEnd es + 16 * entriesBefore t (placedIn es)) (count t (placedIn es)) ≡ filledTo mode es X (suc t) tail
     unfolding tableFilled B o ps bs filledTo tableBytes table
-    table-step few =
+    table-step =
         let U = upToEntries mode es in
         let R = cat (filling (placedIn es) X t) (range 0 256) in
         let L = backWords (placedIn es) (backSizeOf mode es) in
@@ -147,8 +154,7 @@ module _ (mode : Mode) (es : List Entry) (X tail : List ℕ) (long : length X �
         let size : entriesEnd es + 16 * length es ≤ length (U ++ R ++ L ++ tail) =
         omega (arith, length-append (U ++ R ++ L) tail, length-append (U ++ R) L) in
         let most = before-most (placedIn es) t below in
-        let yes : copyable B o c ≡ true =
-        and-both (leb (o + 16 * c) (length B)) (leb c 4608) (le-leb (o + 16 * c) (length B) (omega (arith, length-placed headSize es))) (le-leb c 4608 few) in
+        let yes : leb (o + 16 * c) (length B) ≡ true = le-leb (o + 16 * c) (length B) (omega (arith, length-placed headSize es)) in
         ap (λ (b : Bool). cond b (sets B o (cat bucketBytes (filled (2 * c) (pairsStored B o c)))) B) yes
         ∙ ap (λ (l : List Bucket). sets B o (cat bucketBytes (filled (2 * c) l))) pairs-read-there
         ∙ ap (λ (l : List ℕ). sets l o v) (append-assoc (U ++ R) L tail)
@@ -160,11 +166,10 @@ module _ (mode : Mode) (es : List Entry) (X tail : List ℕ) (long : length X �
         ∙ sym (append-assoc (U ++ cat (filling (placedIn es) X (suc t)) (range 0 256)) L tail)
 
   pub tables-walked : imageSize mode es ≤ 4294967295 → (counts : List ℕ) → Counts counts (placedIn es)
-      → ((t : ℕ) → t < 256 → count t (placedIn es) ≤ 4608) → (m t : ℕ) → t + m ≤ 256
-      → tablesFrom counts (entriesEnd es + 16 * entriesBefore t (placedIn es)) t m (filledTo mode es X t tail) ≡ filledTo mode es X (t + m) tail
+      → (m t : ℕ) → t + m ≤ 256 → tablesFrom counts (entriesEnd es + 16 * entriesBefore t (placedIn es)) t m (filledTo mode es X t tail) ≡ filledTo mode es X (t + m) tail
   unfolding tablesFrom
-  tables-walked fits counts tallies few zero t h = let z : t ≡ t + 0 = omega arith in ap (λ (k : ℕ). filledTo mode es X k tail) z
-  tables-walked fits counts tallies few (suc m) t h =
+  tables-walked fits counts tallies zero t h = let z : t ≡ t + 0 = omega arith in ap (λ (k : ℕ). filledTo mode es X k tail) z
+  tables-walked fits counts tallies (suc m) t h =
       let below : t < 256 = omega arith in
       let ps = placedIn es in
       let o = entriesEnd es + 16 * entriesBefore t ps in
@@ -172,37 +177,43 @@ module _ (mode : Mode) (es : List Entry) (X tail : List ℕ) (long : length X �
       let z : suc t + m ≡ t + suc m = omega arith in
       let more : o + 16 * count t ps ≡ entriesEnd es + 16 * entriesBefore (suc t) ps = omega (arith, before-suc t ps) in
       ap (λ (c : ℕ). tablesFrom counts (o + 16 * c) (suc t) m (tableFilled F o c)) (tallies t below)
-      ∙ ap (λ (l : List ℕ). tablesFrom counts (o + 16 * count t ps) (suc t) m l) (table-step fits t below (few t below))
+      ∙ ap (λ (l : List ℕ). tablesFrom counts (o + 16 * count t ps) (suc t) m l) (table-step fits t below)
       ∙ ap (λ (k : ℕ). tablesFrom counts k (suc t) m (filledTo mode es X (suc t) tail)) more
-      ∙ tables-walked fits counts tallies few m (suc t) (omega arith)
+      ∙ tables-walked fits counts tallies m (suc t) (omega arith)
       ∙ ap (λ (k : ℕ). filledTo mode es X k tail) z
 
 -- ---- all of it
 
--- no table has more pairs than the copy has room for
-pub counts-few : (counts : List ℕ) (ps : List Placed) (most : ℕ) → noneAbove counts most ≡ true → Counts counts ps → (t : ℕ) → t < 256 → count t ps ≤ most
-counts-few counts ps most h tallies t k =
-    let z : 0 + t ≡ t = omega arith in
-    let l : getD counts t 0 ≤ most = rw z at (leb-true (getD counts (0 + t) 0) most (all-each (λ (i : ℕ). leb (getD counts i 0) most) 0 256 t h k)) in
-    omega (arith, tallies t k)
+module _ (mode : Mode) (es : List Entry) (X tail counts : List ℕ) (long : length X ≡ 16 * length (placedIn es))
+    (fits : imageSize mode es ≤ 4294967295) (tallies : Counts counts (placedIn es)) where
+  -- where the tables begin, as partition is told
+  abbrev pub begins : List ℕ
+  begins = sets (replicate 256 0) 0 (tableOffsetsFrom counts (entriesEnd es) 0 256)
 
-pub by-tables-image : (mode : Mode) (es : List Entry) (hashes X tail counts : List ℕ) → FirstHashes hashes es → length X ≡ 16 * length (placedIn es) → imageSize mode es ≤ 4294967295
-    → All (λ (x : Entry). x .id < 2 ^ 32) es → Counts counts (placedIn es) → ((t : ℕ) → t < 256 → count t (placedIn es) ≤ 4608)
-    → insertedByTables mode (backOffset mode es) (entriesEnd es) hashes (length es) counts (upToEntries mode es ++ X ++ backWords [] (backSizeOf mode es) ++ tail)
-    ≡ image mode es ++ tail
-unfolding insertedByTables halfway placed entriesSize entriesBefore image upToEntries
-by-tables-image mode es hashes X tail counts known long fits ids tallies few =
-    let U = upToEntries mode es in
-    let L = backWords [] (backSizeOf mode es) in
-    let end = entriesEnd es in
-    let o = backOffset mode es in
-    let places = sets (replicate 256 0) 0 (tableOffsetsFrom counts end 0 256) in
-    let none : end ≡ end + 16 * entriesBefore 0 (placedIn es) = omega arith in
-    let small : end + 16 * length (placedIn es) ≤ 4294967295 = omega (arith, length-placed headSize es) in
-    ap (λ (l : List ℕ). tablesFrom counts end 0 256 (partitionedFrom mode o end hashes (length es) 0 headSize places (U ++ l ++ L ++ tail)))
-    (sym (areas-none (placedIn es) X long))
-    ∙ ap (tablesFrom counts end 0 256)
-    (half-walked mode es hashes X tail known long fits ids es [] refl places (places-begin counts end (placedIn es) tallies small) ∙ filled-first mode es X tail long)
-    ∙ ap (λ (k : ℕ). tablesFrom counts k 0 256 (filledTo mode es X 0 tail)) none
-    ∙ tables-walked mode es X tail long fits counts tallies few 256 0 (omega arith)
-    ∙ filled-last mode es X tail long
+  -- before any entry is partitioned
+  pub none-parted : (F : List ℕ) → F ++ X ++ backWords [] (backSizeOf mode es) ++ tail ≡ halfway mode F es X [] tail
+  unfolding halfway placed
+  none-parted F = ap (λ (l : List ℕ). F ++ l ++ backWords [] (backSizeOf mode es) ++ tail) (sym (areas-none (placedIn es) X long))
+
+  pub places-first : Places (entriesEnd es) (placedIn es) (placedIn []) begins
+  unfolding placed
+  places-first = places-begin counts (entriesEnd es) (placedIn es) tallies (omega (arith, length-placed headSize es))
+
+  -- the entries that stand in the buffer partitioned
+  pub parted-is : All (λ (x : Entry). x .id < 2 ^ 32) es
+      → partitionedFrom mode (backOffset mode es) (entriesEnd es) (length es) headSize begins (upToEntries mode es ++ X ++ backWords [] (backSizeOf mode es) ++ tail)
+      ≡ filledTo mode es X 0 tail
+  unfolding entriesSize
+  parted-is ids =
+      ap (partitionedFrom mode (backOffset mode es) (entriesEnd es) (length es) headSize begins) (none-parted (upToEntries mode es))
+      ∙ half-walked mode es X tail long fits ids es [] refl begins places-first
+      ∙ filled-first mode es X tail long
+
+  pub tables-image : tablesFrom counts (entriesEnd es) 0 256 (filledTo mode es X 0 tail) ≡ image mode es ++ tail
+  unfolding entriesBefore image upToEntries
+  tables-image =
+      let end = entriesEnd es in
+      let none : end ≡ end + 16 * entriesBefore 0 (placedIn es) = omega arith in
+      ap (λ (k : ℕ). tablesFrom counts k 0 256 (filledTo mode es X 0 tail)) none
+      ∙ tables-walked mode es X tail long fits counts tallies 256 0 (omega arith)
+      ∙ filled-last mode es X tail long

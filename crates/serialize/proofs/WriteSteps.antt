@@ -1,5 +1,5 @@
--- The steps of serializing: the sizes, where the back array begins, and which way the entries are inserted. Assumes nothing.
-use Prim.Native.Nat.{ℕ, _+_, _-_, _*_, _≤_, _<_}
+-- The steps of serializing: the sizes, where the back array begins, head and rows. Assumes nothing.
+use Prim.Native.Nat.{ℕ, _+_, _-_, _*_, _≤_}
 use native.Mathlib.Omega.{arith}
 use mathlib.Core.Path.{_≡_, sym, ap, ap₂, _∙_}
 use mathlib.Core.Bool.{Bool, true, false, cond}
@@ -7,14 +7,12 @@ use mathlib.Core.List.{List}
 use lib.ListN.{replicate}
 use lib.Seq.{sets}
 use lib.Dec.{eqb}
-use borrow.Author.Tests.{eq-eqb, ne-eqb, le-leb, lt-leb}
+use borrow.Author.Tests.{eq-eqb, ne-eqb}
 use Rattle.image.specs.Image.{backIn, flagWord, headBytes}
 use Rattle.image.specs.declared.Mode.{Mode}
 use Rattle.image.specs.declared.Mode.the-variants.{Twoway, Oneway}
-use Rattle.serialize.specs.Record.{finishedOf, noneAbove}
-use Rattle.serialize.specs.steps.Insertion.{insertedFrom}
-use Rattle.serialize.specs.steps.Partition.{insertedByTables}
-use Rattle.serialize.specs.steps.Written.{rowsFrom, backOffsetOf, headed, zeroed, byTables, allInserted, written}
+use Rattle.serialize.specs.Record.{finishedOf}
+use Rattle.serialize.specs.steps.Written.{rowsFrom, backOffsetOf, headed, zeroed, begunImage}
 
 pub backIn-le : (mode : Mode) (n : ℕ) → backIn mode n ≤ n
 backIn-le Twoway n = omega arith
@@ -51,30 +49,9 @@ module _ (mode : Mode) (end entries back : ℕ) where
       ∙ ap₂ (λ (x : ℕ) (y : ℕ). sets buf 0 (headBytes size (flagWord mode) x y)) ek el in
       q ∙ ap (λ (x : List ℕ). sets x 24 (rowsFrom counts end 0 256)) first
 
-  -- all steps of writing
-  pub written-parts : (hashes counts buf b1 b2 : List ℕ) (n l : ℕ)
-      → n ≡ finishedOf mode end entries back → l ≡ backOffsetOf mode end entries back → b1 ≡ headed mode end entries back counts buf
-      → b2 ≡ allInserted mode l end hashes entries n counts b1 → b2 ≡ written mode end hashes entries back counts buf
-  unfolding written
-  written-parts hashes counts buf b1 b2 n l en el p q =
-      q
-      ∙ ap₂ (λ (x : ℕ) (y : ℕ). allInserted mode x end hashes entries y counts b1) el en
-      ∙ ap (allInserted mode (backOffsetOf mode end entries back) end hashes entries (finishedOf mode end entries back) counts) p
-
--- by tables, or one by one
-pub by-tables-few : (counts : List ℕ) (entries : ℕ) → entries < 1024 → false ≡ byTables counts entries
-by-tables-few counts entries h = rw (lt-leb 1024 entries h)
-
-pub by-tables-many : (counts : List ℕ) (entries : ℕ) (b : Bool) → 1024 ≤ entries → b ≡ noneAbove counts 4608 → b ≡ byTables counts entries
-by-tables-many counts entries b h e = rw (le-leb 1024 entries h) e
-
-module _ (mode : Mode) (back-offset end : ℕ) (hashes : List ℕ) (entries size : ℕ) (counts buf : List ℕ) where
-  pub filled-by-tables : {b1 b2 : List ℕ} → byTables counts entries ≡ true → b1 ≡ sets buf (end + 16 * entries) (replicate (size - (end + 16 * entries)) 0)
-      → b2 ≡ insertedByTables mode back-offset end hashes entries counts b1 → b2 ≡ allInserted mode back-offset end hashes entries size counts buf
-  unfolding allInserted zeroed
-  filled-by-tables t p q = rw t (q ∙ ap (insertedByTables mode back-offset end hashes entries counts) p)
-
-  pub filled-singly : {b1 b2 : List ℕ} → byTables counts entries ≡ false → b1 ≡ sets buf end (replicate (size - end) 0)
-      → b2 ≡ insertedFrom mode back-offset end entries 2072 b1 → b2 ≡ allInserted mode back-offset end hashes entries size counts buf
-  unfolding allInserted zeroed
-  filled-singly t p q = rw t (q ∙ ap (insertedFrom mode back-offset end entries 2072) p)
+  -- and the back array cleared
+  pub begun-parts : (counts buf : List ℕ) {b1 b2 : List ℕ} {n : ℕ} → b1 ≡ headed mode end entries back counts buf → n ≡ finishedOf mode end entries back
+      → b2 ≡ sets b1 (end + 16 * entries) (replicate (n - (end + 16 * entries)) 0) → b2 ≡ begunImage mode end entries back counts buf
+  unfolding begunImage zeroed
+  begun-parts counts buf p en q =
+      q ∙ ap₂ (λ (b : List ℕ) (k : ℕ). sets b (end + 16 * entries) (replicate (k - (end + 16 * entries)) 0)) p en

@@ -1,37 +1,41 @@
 -- All that is written is the image of the entries that stand in the buffer. Assumes nothing.
 use Prim.Native.Nat.{ℕ, _+_, _-_, _*_, _^_, _≤_, _<_}
 use native.Mathlib.Omega.{arith}
-use mathlib.Core.Path.{_≡_, refl, sym, ap, ap₂, _∙_}
+use mathlib.Core.Path.{_≡_, refl, sym, ap, subst, _∙_}
 use mathlib.Core.Bool.{Bool, true, false, cond}
+use mathlib.Core.Logic.{_⊎_, ⊎-elim}
 use mathlib.Core.List.{List, [], _∷_, _++_, append-nil, append-assoc}
-use lib.ListN.{length, drop, length-take, length-drop}
+use lib.ListN.{length, take, drop, replicate, length-append, length-take, length-drop}
 use lib.Seq.{sets}
-use lib.Dec.{eqb, leb}
+use lib.Dec.{eqb}
 use borrow.Author.Tests.{ne-eqb}
-use Rattle.image.specs.Bytes.{le32, cat}
-use Rattle.image.specs.Image.{Entry, headSize, entryBytes, entriesSize, tables, backWords, backSizeOf, backOffset, entriesEnd, imageSize, image}
+use Rattle.image.specs.Bytes.{cat, range}
+use Rattle.image.specs.Image.{Entry, headSize, entryBytes, entriesSize, headWords, tableRows, backWords, backSizeOf, backOffset, entriesEnd, imageSize, image}
 use Rattle.image.specs.declared.Mode.{Mode}
-use Rattle.image.proofs.Words.{length-le32}
-use Rattle.image.proofs.Lists.{length-cat}
-use Rattle.image.proofs.Sizes.{length-entries, length-placed}
+use Rattle.image.proofs.Sizes.{length-entries, length-placed, length-backWords}
 use Rattle.image.proofs.Between.{length-between}
 use Rattle.image.proofs.Parts.{placedIn}
-use Rattle.image.proofs.Bools.{and-second}
 use Rattle.image.proofs.AllOfList.{All}
-use Rattle.serialize.specs.Serialize.{storedEntries, serialized}
-use Rattle.serialize.specs.Record.{finishedOf, noneAbove}
-use Rattle.serialize.specs.steps.Preconditions.{ClosePrecondition, FirstHashes, PrecomputedTables, BackArrayStored}
 use Rattle.image.specs.Stored.{whole, between}
-use Rattle.serialize.specs.steps.Insertion.{entryInserted, insertedFrom}
-use Rattle.serialize.specs.steps.Partition.{insertedByTables}
-use Rattle.serialize.specs.steps.Written.{backOffsetOf, headed, zeroed, byTables, allInserted, written}
 use Rattle.image.proofs.EntryArea.{AllBytes, bytes-drop, bytes-take, length-entriesIn, whole-bytes, ids-words}
-use Rattle.serialize.proofs.HeadRows.{counts-agree}
+use Rattle.serialize.specs.Serialize.{storedEntries, serialized}
+use Rattle.serialize.specs.Record.{finishedOf}
+use Rattle.serialize.specs.steps.Preconditions.{ClosePrecondition}
+use Rattle.serialize.specs.steps.Insertion.{entryInserted, insertedFrom}
+use Rattle.serialize.specs.steps.Partition.{tableOffsetsFrom, partitionedFrom, tablesFrom}
+use Rattle.serialize.specs.steps.Written.{backOffsetOf, zeroed, begunImage}
+use Rattle.serialize.specs.steps.Meeting.{Distinct, UnmetFrom, TablesApart, EntriesInserted, TablesDone, SinglyDone, AllDone, ImageWritten}
+use Rattle.serialize.proofs.HeadRows.{Counts, counts-agree}
 use Rattle.serialize.proofs.PartialImage.{upToEntries, partial, partial-all}
-use Rattle.serialize.proofs.Cleared.{Describes, back-is, size-is, back-offset-is, cleared-partial, tables-stored, back-cleared}
+use Rattle.serialize.proofs.Cleared.{Numbers, size-is, back-offset-is, begun-is, cleared-partial}
 use Rattle.serialize.proofs.InsertStep.{next-at, length-found, step}
-use Rattle.serialize.proofs.TablesFilled.{counts-few, by-tables-image}
-use Rattle.serialize.proofs.TablesCopied.{words-number}
+use Rattle.serialize.proofs.TablesFilled.{filling, filledTo, tables-long, parted-is, tables-image}
+use Rattle.serialize.proofs.Distinct.{singly-distinct, by-tables-distinct}
+
+-- the image of the entries, and if none of equal name met, no two have equal names
+pub record Imaged (mode : Mode) (es : List Entry) (tail after : List ℕ) (met : Bool) : Type 0 where
+  pub is : after ≡ image mode es ++ tail
+  pub distinct : met ≡ false → Distinct es
 
 -- ---- the walk, from any entry on
 
@@ -55,6 +59,59 @@ module _ (mode : Mode) (es : List Entry) (tail : List ℕ) (small : imageSize mo
       ∙ ap (λ (l : List ℕ). insertedFrom mode o end (length rest) (at + (8 + n)) l) (step mode es qs rest e tail split small ids)
       ∙ ap (λ (k : ℕ). insertedFrom mode o end (length rest) k (partial mode es (qs ++ e ∷ []) ++ tail)) (next-at qs e)
       ∙ walked rest (qs ++ e ∷ []) (split ∙ sym (append-assoc qs (e ∷ []) rest))
+
+  -- one by one, from cleared tables and back array
+  pub singly-imaged : (R L : List ℕ) → length (R ++ L) ≡ 16 * length es + 4 * backSizeOf mode es → {buf after : List ℕ} {met : Bool}
+      → buf ≡ upToEntries mode es ++ R ++ L ++ tail
+      → SinglyDone mode (backOffset mode es) (entriesEnd es) (length es) (imageSize mode es) buf after met → Imaged mode es tail after met
+  unfolding entriesSize
+  singly-imaged R L long e done =
+      let cleared = ap (λ (b : List ℕ). zeroed b (entriesEnd es) (imageSize mode es)) e ∙ cleared-partial mode es R L tail long in
+      record {
+        is =
+            done .leaves
+            ∙ ap (insertedFrom mode (backOffset mode es) (entriesEnd es) (length es) headSize) cleared
+            ∙ walked es [] refl
+            ∙ ap (λ (l : List ℕ). l ++ tail) (partial-all mode es);
+        distinct = λ z. singly-distinct mode es tail small ids es [] refl tt
+            (subst (UnmetFrom mode (backOffset mode es) (entriesEnd es) (length es) headSize) cleared (done .unmet z));
+      }
+
+  -- the tables from their pairs, or one by one
+  pub all-imaged : (X counts : List ℕ) → length X ≡ 16 * length (placedIn es) → Counts counts (placedIn es) → {buf after : List ℕ} {met : Bool}
+      → buf ≡ filledTo mode es X 0 tail
+      → AllDone mode (backOffset mode es) (entriesEnd es) (length es) (imageSize mode es) counts buf after met → Imaged mode es tail after met
+  unfolding filledTo
+  all-imaged X counts long tallies {buf} {after} {met} e done = ⊎-elim by-tables singly done
+    where
+      by-tables : TablesDone counts (entriesEnd es) buf after met → Imaged mode es tail after met
+      by-tables d =
+          record {
+            is = d .leaves ∙ ap (tablesFrom counts (entriesEnd es) 0 256) e ∙ tables-image mode es X tail counts long small tallies;
+            distinct = λ z. by-tables-distinct mode es X tail long small counts tallies
+                (subst (λ (b : List ℕ). TablesApart (take (entriesEnd es) b) counts (entriesEnd es) 0 256 b) e (d .apart z));
+          }
+
+      singly : SinglyDone mode (backOffset mode es) (entriesEnd es) (length es) (imageSize mode es) buf after met → Imaged mode es tail after met
+      singly d =
+          let R = cat (filling (placedIn es) X 0) (range 0 256) in
+          let L = backWords (placedIn es) (backSizeOf mode es) in
+          singly-imaged R L (omega (arith, length-append R L, tables-long mode es X tail long 0, length-backWords (placedIn es) (backSizeOf mode es))) e d
+
+-- what was done, told by other numbers that are the same
+pub singly-told : {mode : Mode} {l l′ end end′ entries entries′ n n′ : ℕ} (buf : List ℕ) {after : List ℕ} {met : Bool} → l ≡ l′ → end ≡ end′ → entries ≡ entries′ → n ≡ n′
+    → SinglyDone mode l end entries n buf after met → SinglyDone mode l′ end′ entries′ n′ buf after met
+singly-told {mode} {l} {l′} {end} {end′} {entries} {entries′} {n} {n′} buf {after} {met} el ee en es done =
+    subst (λ (k : ℕ). SinglyDone mode l′ end′ entries′ k buf after met) es
+    (subst (λ (k : ℕ). SinglyDone mode l′ end′ k n buf after met) en
+    (subst (λ (k : ℕ). SinglyDone mode l′ k entries n buf after met) ee (subst (λ (k : ℕ). SinglyDone mode k end entries n buf after met) el done)))
+
+pub all-told : {mode : Mode} {l l′ end end′ entries entries′ n n′ : ℕ} (counts buf : List ℕ) {after : List ℕ} {met : Bool} → l ≡ l′ → end ≡ end′ → entries ≡ entries′ → n ≡ n′
+    → AllDone mode l end entries n counts buf after met → AllDone mode l′ end′ entries′ n′ counts buf after met
+all-told {mode} {l} {l′} {end} {end′} {entries} {entries′} {n} {n′} counts buf {after} {met} el ee en es done =
+    subst (λ (k : ℕ). AllDone mode l′ end′ entries′ k counts buf after met) es
+    (subst (λ (k : ℕ). AllDone mode l′ end′ k n counts buf after met) en
+    (subst (λ (k : ℕ). AllDone mode l′ k entries n counts buf after met) ee (subst (λ (k : ℕ). AllDone mode k end entries n counts buf after met) el done)))
 
 -- ---- what is asked for before the image is written
 
@@ -85,90 +142,80 @@ module _ (mode : Mode) (end entries back : ℕ) (counts buf : List ℕ) (bytes :
   es : List Entry
   es = storedEntries buf end entries
 
-  size : ℕ
+  abbrev size : ℕ
   size = finishedOf mode end entries back
 
-  at-end : end ≡ entriesEnd (storedEntries buf end entries)
-  at-end = stored-end end entries buf bytes (asked .whole-entries) (asked .after-head) (omega (arith, asked .fits-buffer))
+  abbrev tail : List ℕ
+  tail = drop size buf
 
-  in-number : length (storedEntries buf end entries) ≡ entries
-  in-number = stored-number end entries buf bytes (asked .whole-entries)
+  abbrev X : List ℕ
+  X = between buf end (end + 16 * entries)
 
-  describes : Describes mode end entries back counts buf es
+  numbers : Numbers mode end entries back counts buf es
   unfolding es
-  describes = record {
-    ends = at-end;
-    number = sym in-number;
+  numbers = record {
+    ends = stored-end end entries buf bytes (asked .whole-entries) (asked .after-head) (omega (arith, asked .fits-buffer));
+    number = sym (stored-number end entries buf bytes (asked .whole-entries));
     backs = asked .back-agrees;
     tallies = counts-agree counts (storedEntries buf end entries) (asked .counts-agree);
-    area = area-kept end entries buf bytes (asked .whole-entries);
     inside = asked .fits-buffer;
   }
 
   image-small : imageSize mode es ≤ 4294967295
+  image-small = rw (← size-is mode end entries back counts buf es numbers) (asked .fits-word)
+
+  ids : All (λ (e : Entry). e .id < 2 ^ 32) es
   unfolding es
-  image-small = rw (← size-is mode end entries back counts buf es describes) (asked .fits-word)
+  ids = stored-ids end entries buf bytes (asked .whole-entries)
 
-  -- entry by entry
-  written-singly : insertedFrom mode (backOffsetOf mode end entries back) end entries headSize (zeroed (headed mode end entries back counts buf) end size)
-      ≡ image mode es ++ drop size buf
-  unfolding es size entriesSize
-  written-singly =
-      let tail = drop (finishedOf mode end entries back) buf in
-      ap (insertedFrom mode (backOffsetOf mode end entries back) end entries headSize) (cleared-partial mode end entries back counts buf es describes)
-      ∙ ap (λ (o : ℕ). insertedFrom mode o end entries headSize (partial mode es [] ++ tail)) (back-offset-is mode end entries back counts buf es describes)
-      ∙ ap (λ (o : ℕ). insertedFrom mode (backOffset mode es) o entries headSize (partial mode es [] ++ tail)) at-end
-      ∙ ap (λ (n : ℕ). insertedFrom mode (backOffset mode es) (entriesEnd es) n headSize (partial mode es [] ++ tail)) (sym in-number)
-      ∙ walked mode es tail image-small (stored-ids end entries buf bytes (asked .whole-entries)) es [] refl
-      ∙ ap (λ (l : List ℕ). l ++ tail) (partial-all mode es)
-
-  -- by tables
-  written-by-tables : (hashes : List ℕ) → FirstHashes hashes (storedEntries buf end entries) → byTables counts entries ≡ true
-      → insertedByTables mode (backOffsetOf mode end entries back) end hashes entries counts (zeroed (headed mode end entries back counts buf) (end + 16 * entries) size)
-      ≡ image mode es ++ drop size buf
-  unfolding es size
-  written-by-tables hashes known few =
-      let tail = drop (finishedOf mode end entries back) buf in
-      let X = between buf end (end + 16 * entries) in
-      let Z = upToEntries mode es ++ X ++ backWords [] (backSizeOf mode es) ++ tail in
-      let long : length X ≡ 16 * length (placedIn es) =
+  area-long : length X ≡ 16 * length (placedIn es)
+  area-long =
       length-between buf end (end + 16 * entries) (omega arith) (omega (arith, asked .fits-buffer))
-      ∙ same end entries (sym in-number ∙ sym (length-placed headSize es)) in
-      ap (insertedByTables mode (backOffsetOf mode end entries back) end hashes entries counts) (back-cleared mode end entries back counts buf es describes)
-      ∙ ap (λ (o : ℕ). insertedByTables mode o end hashes entries counts Z) (back-offset-is mode end entries back counts buf es describes)
-      ∙ ap (λ (o : ℕ). insertedByTables mode (backOffset mode es) o hashes entries counts Z) at-end
-      ∙ ap (λ (n : ℕ). insertedByTables mode (backOffset mode es) (entriesEnd es) hashes n counts Z) (sym in-number)
-      ∙ by-tables-image mode es hashes X tail counts known long image-small
-      (stored-ids end entries buf bytes (asked .whole-entries)) (describes .tallies)
-      (counts-few counts (placedIn es) 4608 (and-second (leb 1024 entries) (noneAbove counts 4608) few) (describes .tallies))
+      ∙ same end entries (numbers .number ∙ sym (length-placed headSize es))
     where
       same : (a n : ℕ) {m : ℕ} → n ≡ m → a + 16 * n - a ≡ 16 * m
       same a n e = omega arith
 
-  pub written-image : (hashes : List ℕ) → FirstHashes hashes (storedEntries buf end entries)
-      → written mode end hashes entries back counts buf ≡ serialized mode end entries back buf
-  unfolding written allInserted es size
-  written-image hashes known = go (byTables counts entries) refl
-    where
-      go : (t : Bool) → byTables counts entries ≡ t
-          → cond t
-          (insertedByTables mode (backOffsetOf mode end entries back) end hashes entries counts (zeroed (headed mode end entries back counts buf) (end + 16 * entries) size))
-          (insertedFrom mode (backOffsetOf mode end entries back) end entries headSize (zeroed (headed mode end entries back counts buf) end size))
-          ≡ serialized mode end entries back buf
-      go true few = written-by-tables hashes known few
-      go false many = written-singly
+  begun : begunImage mode end entries back counts buf ≡ upToEntries mode es ++ X ++ backWords [] (backSizeOf mode es) ++ tail
+  unfolding upToEntries es
+  begun =
+      let H = headWords mode es in
+      let R = tableRows (entriesEnd es) (placedIn es) in
+      begun-is mode end entries back counts buf es numbers
+      ∙ ap (λ (l : List ℕ). H ++ R ++ l ++ X ++ backWords [] (backSizeOf mode es) ++ tail) (area-kept end entries buf bytes (asked .whole-entries))
 
-  -- with precomputed tables, and the back array in its place
-  pub written-with-image : (words b1 b2 : List ℕ) → PrecomputedTables words (storedEntries buf end entries) → BackArrayStored mode end entries back buf
-      → b1 ≡ headed mode end entries back counts buf → b2 ≡ sets b1 end (cat le32 words) → b2 ≡ serialized mode end entries back buf
-  unfolding es upToEntries image
-  written-with-image words b1 b2 at-hand linked front copyable =
-      let tail = drop (finishedOf mode end entries back) buf in
-      let U = upToEntries mode es in
-      let long : length (cat le32 words) ≡ 16 * entries =
-      omega (arith, length-cat le32 4 length-le32 words, words-number words buf end entries at-hand) in
-      copyable
-      ∙ ap (λ (l : List ℕ). sets l end (cat le32 words)) front
-      ∙ tables-stored mode end entries back counts buf es describes (cat le32 words) long
-      ∙ ap₂ (λ (t l : List ℕ). U ++ t ++ l ++ tail) at-hand linked
-      ∙ ap (λ (n : ℕ). U ++ tables (placedIn es) ++ backWords (placedIn es) n ++ tail) (back-is mode end entries back counts buf es describes)
+  written : {after : List ℕ} {met : Bool} → Imaged mode es tail after met → ImageWritten mode end entries back buf after met
+  unfolding es
+  written i = record { leaves = i .is; distinct = i .distinct }
+
+  -- one by one
+  pub written-singly : {b0 after : List ℕ} {n l : ℕ} {met : Bool} → n ≡ finishedOf mode end entries back → l ≡ backOffsetOf mode end entries back
+      → b0 ≡ begunImage mode end entries back counts buf → SinglyDone mode l end entries n b0 after met → ImageWritten mode end entries back buf after met
+  written-singly {b0} en el eb done =
+      let L = backWords [] (backSizeOf mode es) in
+      written
+      (singly-imaged mode es tail image-small ids X L (omega (arith, length-append X L, area-long, length-placed headSize es, length-backWords [] (backSizeOf mode es)))
+      (eb ∙ begun)
+      (singly-told b0 (el ∙ back-offset-is mode end entries back counts buf es numbers) (numbers .ends) (numbers .number)
+      (en ∙ size-is mode end entries back counts buf es numbers) done))
+
+  -- by tables
+  pub written-by-tables : {b0 b1 places after : List ℕ} {n l : ℕ} {met : Bool} → n ≡ finishedOf mode end entries back → l ≡ backOffsetOf mode end entries back
+      → b0 ≡ begunImage mode end entries back counts buf → places ≡ sets (replicate 256 0) 0 (tableOffsetsFrom counts end 0 256)
+      → b1 ≡ partitionedFrom mode l end entries 2072 places b0 → AllDone mode l end entries n counts b1 after met
+      → ImageWritten mode end entries back buf after met
+  written-by-tables {b0} {b1} {places} {after} {n} {l} en el eb ep e1 done =
+      let offset = el ∙ back-offset-is mode end entries back counts buf es numbers in
+      let o = backOffset mode es in
+      let B = upToEntries mode es ++ X ++ backWords [] (backSizeOf mode es) ++ tail in
+      let parted =
+      e1
+      ∙ ap (λ (b : List ℕ). partitionedFrom mode l end entries headSize places b) (eb ∙ begun)
+      ∙ ap (λ (k : ℕ). partitionedFrom mode k end entries headSize places B) offset
+      ∙ ap (λ (k : ℕ). partitionedFrom mode o end k headSize places B) (numbers .number)
+      ∙ ap (λ (q : List ℕ). partitionedFrom mode o end (length es) headSize q B) ep
+      ∙ ap (λ (k : ℕ). partitionedFrom mode o k (length es) headSize (sets (replicate 256 0) 0 (tableOffsetsFrom counts k 0 256)) B) (numbers .ends)
+      ∙ parted-is mode es X tail counts area-long image-small (numbers .tallies) ids in
+      written
+      (all-imaged mode es tail image-small ids X counts area-long (numbers .tallies) parted
+      (all-told counts b1 offset (numbers .ends) (numbers .number) (en ∙ size-is mode end entries back counts buf es numbers) done))

@@ -1,14 +1,15 @@
 // The head of an image, and the space behind the entries cleared.
 ghost use mathlib.Core.Path.{_≡_};
 ghost use mathlib.Core.Bool.{cond};
-ghost use Prim.Native.Nat.{_-_, _%_};
-ghost use lib.ListN.{replicate};
+ghost use Prim.Native.Nat.{_-_, _%_, _≤_};
+ghost use lib.ListN.{length, replicate};
 ghost use lib.Seq.{sets};
 ghost use lib.Dec.{eqb};
 ghost use Rattle.image.specs.Image.{headBytes};
 ghost use Rattle.serialize.specs.steps.Contracts.{AsU64, ClearBytesPre};
-ghost use Rattle.serialize.specs.steps.Written.{rowsFrom};
+ghost use Rattle.serialize.specs.steps.Written.{RowsWritten};
 use image::BYTEORDER_CHECK;
+use image::store::store_word;
 
 // The letters CQDB as a word.
 const CHUNK_ID: u32 = 0x42445143;
@@ -46,16 +47,22 @@ fn row_offset(count: u64, o: u64) -> u64
     if count == 0 { 0 } else { o }
 }
 
-// The rows of the 256 tables, of which the first with entries begins at `end`.
-pub(super) fn write_rows(buf: &mut [u8], counts: &[u32; 256], end: u32)
-    ensures { λ _. ⌜ now (buf .exit) ≡ sets (now (buf .entry)) 24 (rowsFrom (now (counts .entry)) end 0 256) ⌝ }
+// The rows of the 256 tables, of which the first with entries begins at `end`, and where each table begins. One loop
+// does both: of 100 names it would be 3 % of a list in one call to have two.
+pub(super) fn write_rows(buf: &mut [u8], counts: &[u32; 256], end: u32, places: &mut [u32; 256])
+    requires { ⌜ 2072 ≤ length (now buf) ⌝ }
+    ensures { λ _. ⌜
+        RowsWritten (now (counts .entry)) end (now (buf .entry)) (now (places .entry)) (now (buf .exit))
+        (now (places .exit))
+        ⌝ }
 {
     let mut o = end as u64;
     let mut t = 0;
     while t < 256 {
         let count = as_u64(counts[t]);
-        image::put_u32(&mut *buf, 24 + 8 * t, low(row_offset(count, o)));
-        image::put_u32(&mut *buf, 28 + 8 * t, low(2 * count));
+        store_word(&mut *buf, 24 + 8 * t, low(row_offset(count, o)));
+        store_word(&mut *buf, 28 + 8 * t, low(2 * count));
+        places[t] = low(o);
         o += 16 * count;
         t += 1;
     }

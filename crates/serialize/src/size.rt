@@ -25,7 +25,7 @@ pub fn finished_size(mode: Mode, end: u64, entries: u32, back: u32) -> u64
 }
 
 // Where the back array begins, 0 where there is none.
-pub(super) fn back_offset(mode: Mode, end: u64, entries: u32, back: u32) -> u64
+pub fn back_offset(mode: Mode, end: u64, entries: u32, back: u32) -> u64
     requires { ⌜ end < 2 ^ 63 ⌝ }
     ensures { λ r. ⌜ r ≡ backOffsetOf mode end entries back ⌝ }
 {

@@ -5,7 +5,7 @@ ghost use Rattle.writer.specs.State.{stateWith, beginning, begunOf, coun
 ghost use Rattle.writer.specs.Put.{putRefusal, appended, afterPut, entryOf};
 ghost use Rattle.writer.specs.Close.{closeRefusal, closing, closedOf, afterClose};
 ghost use Rattle.writer.specs.Grown.{grownRefusal, grownWriter};
-ghost use Rattle.writer.specs.steps.Closing.{WriteClosedPre, WriteClosedPost};
+ghost use Rattle.writer.specs.steps.Closing.{WriteClosedPost};
 use image::HEAD_SIZE;
 use image::HEAD_SIZE_64;
 use image::Mode;
@@ -195,23 +195,14 @@ pub fn close_refusal(w: CQDBWriter, counts: &[u32; 256], buf: &[u8]) -> u32
     0
 }
 
-// Writes the image of a record that close accepts, and gives its size. `hashes` has the hashes of the first entries, or
-// of none.
-pub fn write_closed(w: CQDBWriter, counts: &[u32; 256], hashes: &[u32], buf: &mut [u8]) -> u32
-    requires { ⌜ WriteClosedPre (stateWith w (now counts) (now buf)) (now hashes) ⌝ }
+// Writes the image of a record that close accepts, and gives its size.
+pub fn write_closed(w: CQDBWriter, counts: &[u32; 256], buf: &mut [u8]) -> u32
+    requires { ⌜ closeRefusal (stateWith w (now counts) (now buf)) ≡ 0 ⌝ }
     ensures { λ r. ⌜ WriteClosedPost (stateWith w (now (counts .entry)) (now (buf .entry))) r (now (buf .exit)) ⌝ }
 {
     let image_mode = w.mode;
     let size = serialize::size::finished_size(image_mode, w.end, w.entries, w.back);
-    serialize::write_image(
-        image_mode,
-        w.end,
-        w.entries,
-        w.back,
-        counts,
-        hashes,
-        &mut *buf,
-    );
+    serialize::write_image(image_mode, w.end, w.entries, w.back, counts, &mut *buf);
     size as u32
 }
 
@@ -232,8 +223,7 @@ pub fn close(w: CQDBWriter, counts: &[u32; 256], buf: &mut [u8]) -> CloseAnswer
             writer: w,
         };
     }
-    let none: [u32; 1] = [0; 1];
-    let size = write_closed(w, counts, &none[..0], &mut *buf);
+    let size = write_closed(w, counts, &mut *buf);
     CloseAnswer {
         answer: Closed::Size(size),
         writer: w,

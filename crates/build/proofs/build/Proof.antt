@@ -3,6 +3,7 @@ use native.Mathlib.Omega.{arith}
 use mathlib.Core.Path.{refl, sym, _∙_}
 use lib.ListN.{length}
 use borrow.Author.Needs.{needs}
+use Rattle.build.specs.Build.{madeOf}
 use Rattle.build.proofs.Whole.{refusal-14, refusal-15, refusal-15-places, refusal-1, refusal-none, refused-build}
 use Rattle.build.proofs.build.Statement.{statement}
 use Rattle.build.proofs.build.Tie as tie
@@ -56,6 +57,7 @@ build-list-requires c κs =
     }
 
 returns-5 : tie.Need-returns-5
+unfolding madeOf
 returns-5 c =
     let b = c .before .before .before .before .before .before in
     let s = checked b in
@@ -63,7 +65,7 @@ returns-5 c =
     let straight = sym (s .before .before .before .before .invalid-ends .ensures) ∙ s .before .before .before .if1 .left in
     let none = refusal-none (a .bytes .now) (a .ends .now) (length (a .ids .now)) (length (a .refusals .now)) (length (a .buf .now)) straight (s .before .before .if2 .left) (s .before .if3 .left) (s .if4 .left) in
     let out = b .build-list .ensures in
-    (out .gives, (out .leaves, (out .answers, λ h. absurd (omega (arith, none, h)))))
+    (out .gives, (record { refused = λ h. absurd (omega (arith, none, h)); imaged = λ z. out .imaged; behind = λ z. out .behind }, (out .answers, λ h. absurd (omega (arith, none, h)))))
 
 pub build-spec : {M : Type 1} → statement M
 build-spec =

@@ -21,8 +21,7 @@ pub record RoomForAll (mode : Mode) (ends ids : List ℕ) (room : ℕ) : Type 0 
   pub within : bytesForAll mode ends ids ≤ room
   pub small : bytesForAll mode ends ids ≤ 4294967295
 
--- the bulk path can be tried: besides there are 6 words of scratch memory a name, and a name
-pub record Capacity (mode : Mode) (ends ids : List ℕ) (room words : ℕ) : Type 0 where
+-- the direct path can be tried: there is a name, too
+pub record Capacity (mode : Mode) (ends ids : List ℕ) (room : ℕ) : Type 0 where
   pub fits : RoomForAll mode ends ids room
-  pub scratch : 6 * length ends ≤ words
   pub some : 0 < length ends

@@ -1,59 +1,59 @@
--- What the functions that write the image of all names ask and give. No rule stands here: proofs/ joins it to the
--- rules.
-use Prim.Native.Nat.{ℕ, _+_, _*_, _≤_, _<_}
+-- What hashing a list and writing its image ask and give. No rule stands here: proofs/ joins it to the rules.
+use Prim.Native.Nat.{ℕ, _≤_, _<_}
 use mathlib.Core.Path.{_≡_}
-use mathlib.Core.Bool.{false}
-use mathlib.Core.List.{List, _++_, map}
+use mathlib.Core.Bool.{Bool, false}
+use mathlib.Core.List.{List, _++_}
 use lib.ListN.{length, getD, drop, replicate}
-use Rattle.image.specs.Bytes.{cat}
-use Rattle.image.specs.Stored.{between}
-use Rattle.image.specs.Image.{Entry, headSize, entryBytes, placed, count, backWords, entriesEnd, backSizeOf}
-use Rattle.image.specs.Image.{imageSize, image}
+use Rattle.jhash.specs.NameHash.{hashOf}
+use Rattle.image.specs.Zero.{hasZero}
+use Rattle.image.specs.Image.{Entry, headSize, placed, count, imageSize, image}
 use Rattle.image.specs.declared.Mode.{Mode}
-use Rattle.packed.specs.Names.{names, invalidEnds}
-use Rattle.serialize.specs.steps.Preconditions.{PrecomputedTables}
-use Rattle.build.specs.steps.Capacity.{RoomForAll}
-use Rattle.build.specs.steps.Steps.{entriesListed}
+use Rattle.packed.specs.Names.{names, nth, invalidEnds}
+use Rattle.serialize.specs.steps.Meeting.{Distinct}
+use Rattle.build.specs.steps.Capacity.{Capacity}
+use Rattle.build.specs.steps.Steps.{entriesListed, ListPre}
 
 -- the entries of all names
 abbrev pub listEntries : List ℕ → List ℕ → List ℕ → List Entry
 listEntries bytes ends ids = entriesListed (names bytes ends) ids
 
--- the entries are to be stored around a cleared back array, which begins at `at`
-pub record StoreListPre (mode : Mode) (at : ℕ) (bytes ends ids buf : List ℕ) : Type 0 where
+-- the names' hashes, of the first i
+abbrev pub Hashes : List ℕ → List ℕ → List ℕ → ℕ → Type 0
+Hashes bytes ends hashes i = (j : ℕ) → j < i → getD hashes j 0 ≡ hashOf (nth (names bytes ends) j)
+
+-- no name has a zero byte
+abbrev pub NoZeros : List ℕ → List ℕ → Type 0
+NoZeros bytes ends = (j : ℕ) → j < length ends → hasZero (nth (names bytes ends) j) ≡ false
+
+-- the counts of tables that entries fall into
+abbrev pub Tallied : List ℕ → List Entry → Type 0
+Tallied counts es = (t : ℕ) → t < 256 → getD counts t 0 ≡ count t (placed headSize es)
+
+-- no count is raised yet; all bytes have a size below 2^32, and so has each name
+pub record HashListPre (bytes ends hashes counts : List ℕ) : Type 0 where
   pub packed : invalidEnds (length bytes) 0 ends ≡ false
-  pub few : length ends ≤ 171798691
-  pub ids-long : length ends ≤ length ids
-  pub within : imageSize mode (listEntries bytes ends ids) ≤ length buf
-  pub small : imageSize mode (listEntries bytes ends ids) ≤ 4294967295
-  pub at-is : at ≡ entriesEnd (listEntries bytes ends ids) + 16 * length ends
-  pub cleared : between buf at (imageSize mode (listEntries bytes ends ids))
-      ≡ replicate (4 * backSizeOf mode (listEntries bytes ends ids)) 0
+  pub hashes-long : length ends ≤ length hashes
+  pub number-word : length ends ≤ 4294967295
+  pub short : (j : ℕ) → j < length ends → length (nth (names bytes ends) j) < 4294967295
+  pub none : counts ≡ replicate 256 0
 
--- they stand one behind the other, each offset under its id in the back array, and what follows the image is as it was
-pub record StoreListPost (mode : Mode) (at : ℕ) (bytes ends ids buf bufThen : List ℕ) : Type 0 where
-  pub area : between bufThen headSize (entriesEnd (listEntries bytes ends ids))
-      ≡ cat entryBytes (listEntries bytes ends ids)
-  pub linked : between bufThen at (imageSize mode (listEntries bytes ends ids))
-      ≡ backWords (placed headSize (listEntries bytes ends ids)) (backSizeOf mode (listEntries bytes ends ids))
-  pub behind : drop (imageSize mode (listEntries bytes ends ids)) bufThen
-      ≡ drop (imageSize mode (listEntries bytes ends ids)) buf
-  pub long : length bufThen ≡ length buf
+-- the hashes of all names, and the counts of their tables, whatever the ids
+pub record HashListPost (bytes ends hashes hashesThen counts : List ℕ) : Type 0 where
+  pub hashed : Hashes bytes ends hashesThen (length ends)
+  pub rest : drop (length ends) hashesThen ≡ drop (length ends) hashes
+  pub tallies : (ids : List ℕ) → length ends ≤ length ids → Tallied counts (listEntries bytes ends ids)
 
--- the image of all names is to be written, with these table counts and the words of its tables
-pub record WriteListPre (mode : Mode) (buf bytes ends ids counts words : List ℕ) : Type 0 where
-  pub packed : invalidEnds (length bytes) 0 ends ≡ false
-  pub some : 0 < length ends
-  pub few : length ends ≤ 171798691
-  pub ids-long : length ends ≤ length ids
-  pub fits : RoomForAll mode ends ids (length buf)
-  pub tables : length counts ≡ 256
-  pub counted : (es : List Entry) → map (λ (e : Entry). e .name) es ≡ names bytes ends
-      → (t : ℕ) → t < 256 → getD counts t 0 ≡ count t (placed headSize es)
-  pub tabled : (es : List Entry) → map (λ (e : Entry). e .name) es ≡ names bytes ends
-      → PrecomputedTables words es
+-- a list with its hashes and counts, and a buffer that has room for the image of all names
+pub record WriteListPre (mode : Mode) (counts hashes buffer bytes ends ids : List ℕ) : Type 0 where
+  pub list : ListPre buffer bytes ends ids hashes
+  pub capacity : Capacity mode ends ids (length buffer)
+  pub hashed : Hashes bytes ends hashes (length ends)
+  pub tallies : Tallied counts (listEntries bytes ends ids)
 
-pub record WriteListPost (mode : Mode) (buf bytes ends ids : List ℕ) (r : ℕ) (bufThen : List ℕ) : Type 0 where
-  pub size : r ≡ imageSize mode (listEntries bytes ends ids)
-  pub leaves : bufThen
-      ≡ image mode (listEntries bytes ends ids) ++ drop (imageSize mode (listEntries bytes ends ids)) buf
+-- the image of all names, with what is behind it as it was; if none of equal name met, no two have equal names
+pub record ListWritten (mode : Mode) (buffer bytes ends ids : List ℕ) (size : ℕ) (met : Bool) (bufferThen : List ℕ)
+    : Type 0 where
+  pub sized : size ≡ imageSize mode (listEntries bytes ends ids)
+  pub leaves : bufferThen
+      ≡ image mode (listEntries bytes ends ids) ++ drop (imageSize mode (listEntries bytes ends ids)) buffer
+  pub distinct : met ≡ false → Distinct (listEntries bytes ends ids)

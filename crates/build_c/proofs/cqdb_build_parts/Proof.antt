@@ -7,7 +7,7 @@ use borrow.Author.Needs.{needs}
 use Rattle.build.specs.declared.Built.{Built}
 use Rattle.build.specs.Build.{builtOf}
 use Rattle.build.proofs.Whole.{refused-some}
-use Rattle.build_c.specs.Building.{builtAnswer, buildAnswer, bufferBuilt, answersBuilt}
+use Rattle.build_c.specs.Building.{builtAnswer, buildAnswer, BufferLeft, answersBuilt}
 use Rattle.build_c.proofs.Builds.{Promise, unknown-build, known-build}
 use Rattle.build_c.proofs.cqdb_build_parts.Statement.{statement}
 use Rattle.build_c.proofs.cqdb_build_parts.Tie as tie
@@ -36,7 +36,7 @@ module _ (c : tie.After-build) where
       record { answer = p .0; leaves = p .1 .0; answers = p .1 .1 .0; untouched = p .1 .1 .1 }
 
   told : (builtAnswer (builtOf (c .build .result)) ≡ buildAnswer (start .args .mode) (start .args .repeats) (start .args .buf .now) (start .args .names .now) (start .args .ends .now) (start .args .ids .now) (length (start .args .refusals .now)))
-      × (c .build .last .1 .1 .0 ≡ bufferBuilt (start .args .mode) (start .args .repeats) (start .args .buf .now) (start .args .names .now) (start .args .ends .now) (start .args .ids .now) (length (start .args .refusals .now)))
+      × BufferLeft (start .args .mode) (start .args .repeats) (start .args .buf .now) (start .args .names .now) (start .args .ends .now) (start .args .ids .now) (length (start .args .refusals .now)) (c .build .last .1 .1 .0)
       × (c .build .last .1 .1 .1 .1 .1 .1 .0 ≡ answersBuilt (start .args .mode) (start .args .repeats) (start .args .buf .now) (start .args .names .now) (start .args .ends .now) (start .args .ids .now) (start .args .refusals .now))
   told =
       let m = moded c .mode-of in

@@ -31,11 +31,6 @@ unfoldable pub inserted : List ℕ → ℕ → ℕ → ℕ → ℕ → List ℕ
 inserted buf o n h at =
     sets buf (o + 8 * firstEmpty (offsetAt buf o) (probeSequence n n (start h n))) (le32 h ++ le32 at)
 
--- the same, and the offset is a word
-pub record PairInserted (buf : List ℕ) (o n h at : ℕ) (after : List ℕ) : Type 0 where
-  pub stored : after ≡ inserted buf o n h at
-  pub offset-word : at < 4294967296
-
 -- a pair inserted into the table of its hash, which the row in the head gives
 unfoldable pub insertedByRow : List ℕ → ℕ → ℕ → List ℕ
 insertedByRow buf h at =
@@ -52,9 +47,10 @@ pub record EntryPre (at n : ℕ) (buf : List ℕ) : Type 0 where
   pub length-word : n < 4294967296
   pub offset-word : at < 4294967296
 
--- and there is a back array at back-offset
-pub record InsertEntryPre (back-offset at n : ℕ) (buf : List ℕ) : Type 0 where
+-- and there is a back array at back-offset, and the entries end at `end`
+pub record InsertEntryPre (back-offset end at n : ℕ) (buf : List ℕ) : Type 0 where
   pub entry : EntryPre at n buf
+  pub front : end ≤ length buf
   pub back-word : back-offset < 4294967296
 
 -- the hash of its name

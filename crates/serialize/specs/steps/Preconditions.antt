@@ -3,11 +3,9 @@
 use Prim.Native.Nat.{ℕ, _+_, _*_, _≤_}
 use mathlib.Core.Path.{_≡_}
 use mathlib.Core.Bool.{true}
-use mathlib.Core.List.{List, map}
-use lib.ListN.{length, take}
-use Rattle.jhash.specs.NameHash.{hashOf}
-use Rattle.image.specs.Bytes.{le32, cat}
-use Rattle.image.specs.Image.{Entry, headSize, backSize, backIn, placed, tables, backWords}
+use mathlib.Core.List.{List}
+use lib.ListN.{length}
+use Rattle.image.specs.Image.{headSize, backSize, backIn}
 use Rattle.image.specs.Stored.{whole, between}
 use Rattle.image.specs.declared.Mode.{Mode}
 use Rattle.serialize.specs.Record.{finishedOf, countsAgree}
@@ -22,28 +20,3 @@ pub record ClosePrecondition (mode : Mode) (end entries back : ℕ) (counts buf 
   pub back-agrees : back ≡ backIn mode (backSize (storedEntries buf end entries))
   pub fits-buffer : finishedOf mode end entries back ≤ length buf
   pub fits-word : finishedOf mode end entries back ≤ 4294967295
-
--- the hashes of the first entries, in put order
-pub record FirstHashes (hashes : List ℕ) (es : List Entry) : Type 0 where
-  pub are : hashes ≡ take (length hashes) (map (λ (e : Entry). hashOf (e .name)) es)
-
--- the same where the hashes of the first entries, or of none, are known
-pub record WriteImagePre (mode : Mode) (end entries back : ℕ) (counts hashes buf : List ℕ) : Type 0 where
-  pub closable : ClosePrecondition mode end entries back counts buf
-  pub known : FirstHashes hashes (storedEntries buf end entries)
-
--- the tables of the entries, as words
-abbrev pub PrecomputedTables : List ℕ → List Entry → Type 0
-PrecomputedTables words es = cat le32 words ≡ tables (placed headSize es)
-
--- the back array of the entries stands behind the tables
-abbrev pub BackArrayStored : Mode → ℕ → ℕ → ℕ → List ℕ → Type 0
-BackArrayStored mode end entries back buf =
-    between buf (end + 16 * entries) (finishedOf mode end entries back)
-    ≡ backWords (placed headSize (storedEntries buf end entries)) (backIn mode back)
-
--- the same, with the tables computed before and the back array stored
-pub record PrecomputedPre (mode : Mode) (end entries back : ℕ) (counts words buf : List ℕ) : Type 0 where
-  pub closable : ClosePrecondition mode end entries back counts buf
-  pub tables : PrecomputedTables words (storedEntries buf end entries)
-  pub back-array : BackArrayStored mode end entries back buf

@@ -1,17 +1,17 @@
 -- All that is written around the entries. No rule of 01 stands here: proofs/ shows that it is the image that
 -- specs/Serialize says.
 use Prim.Native.Nat.{ℕ, zero, suc, _+_, _*_, _-_, _<_, _≤_}
-use mathlib.Core.Bool.{Bool, cond, _&&_}
+use mathlib.Core.Path.{_≡_}
+use mathlib.Core.Bool.{cond}
 use mathlib.Core.List.{List, [], _++_}
 use lib.ListN.{length, getD, replicate}
 use lib.Seq.{sets}
-use lib.Dec.{eqb, leb}
+use lib.Dec.{eqb}
 use Rattle.image.specs.Bytes.{le32}
 use Rattle.image.specs.Image.{headSize, headBytes, flagWord, backIn}
 use Rattle.image.specs.declared.Mode.{Mode}
-use Rattle.serialize.specs.Record.{finishedOf, noneAbove}
-use Rattle.serialize.specs.steps.Insertion.{insertedFrom}
-use Rattle.serialize.specs.steps.Partition.{insertedByTables}
+use Rattle.serialize.specs.Record.{finishedOf}
+use Rattle.serialize.specs.steps.Partition.{tableOffsetsFrom}
 
 -- the rows of the m tables from t on, of which the first with entries begins at o
 unfoldable pub rowsFrom : List ℕ → ℕ → ℕ → ℕ → List ℕ
@@ -36,26 +36,34 @@ headed mode end entries back counts buf =
 unfoldable pub zeroed : List ℕ → ℕ → ℕ → List ℕ
 zeroed buf from to = sets buf from (replicate (to - from) 0)
 
--- are the entries inserted by tables? From 1,024 entries on, where no table has more than 4,608
-abbrev pub byTables : List ℕ → ℕ → Bool
-byTables counts entries = leb 1024 entries && noneAbove counts 4608
+-- rows, and where the tables begin
+pub record RowsWritten (counts : List ℕ) (end : ℕ) (buf places buf′ places′ : List ℕ) : Type 0 where
+  pub rows : buf′ ≡ sets buf 24 (rowsFrom counts end 0 256)
+  pub begins : places′ ≡ sets places 0 (tableOffsetsFrom counts end 0 256)
 
--- entries, tables and back array lie in the image, and the image in the buffer
-pub record InsertAllPre (back-offset end entries size : ℕ) (buf : List ℕ) : Type 0 where
+-- the image lies in the buffer
+pub record BeginPre (mode : Mode) (end entries back : ℕ) (buf : List ℕ) : Type 0 where
+  pub low : headSize ≤ end
+  pub fits-buffer : finishedOf mode end entries back ≤ length buf
+  pub fits-word : finishedOf mode end entries back ≤ 4294967295
+
+pub record FrontWritten (mode : Mode) (end entries back : ℕ) (counts buf places buf′ places′ : List ℕ) : Type 0 where
+  pub front : buf′ ≡ headed mode end entries back counts buf
+  pub begins : places′ ≡ sets places 0 (tableOffsetsFrom counts end 0 256)
+
+-- head and rows, and the back array cleared
+unfoldable pub begunImage : Mode → ℕ → ℕ → ℕ → List ℕ → List ℕ → List ℕ
+begunImage mode end entries back counts buf =
+    zeroed (headed mode end entries back counts buf) (end + 16 * entries) (finishedOf mode end entries back)
+
+pub record ImageBegun (mode : Mode) (end entries back : ℕ) (counts buf places buf′ places′ : List ℕ) : Type 0 where
+  pub image : buf′ ≡ begunImage mode end entries back counts buf
+  pub begins : places′ ≡ sets places 0 (tableOffsetsFrom counts end 0 256)
+
+-- the entries end in the image, and the image in the buffer
+pub record FillAllPre (back-offset end size : ℕ) (buf : List ℕ) : Type 0 where
   pub low : 2072 ≤ end
-  pub tables : end + 16 * entries ≤ size
+  pub within : end ≤ size
   pub inside : size ≤ length buf
   pub size-word : size < 4294967296
   pub back-word : back-offset < 4294967296
-
--- the entries in tables and back array: by tables, or one by one
-unfoldable pub allInserted : Mode → ℕ → ℕ → List ℕ → ℕ → ℕ → List ℕ → List ℕ → List ℕ
-allInserted mode back-offset end hashes entries size counts buf =
-    cond (byTables counts entries)
-    (insertedByTables mode back-offset end hashes entries counts (zeroed buf (end + 16 * entries) size))
-    (insertedFrom mode back-offset end entries headSize (zeroed buf end size))
-
-unfoldable pub written : Mode → ℕ → List ℕ → ℕ → ℕ → List ℕ → List ℕ → List ℕ
-written mode end hashes entries back counts buf =
-    allInserted mode (backOffsetOf mode end entries back) end hashes entries (finishedOf mode end entries back) counts
-    (headed mode end entries back counts buf)

@@ -17,7 +17,7 @@ returns c =
 
 returns-2 : tie.Need-returns-2
 returns-2 c =
-    let decided = c .before .before .before .before .before in
+    let decided = c .before .before .before .before in
     let a = decided .before .before .before .before .args in
     let done = c .before .before .write-closed .ensures in
     written (stateWith (a .w) (a .counts .now) (a .buf .now)) (c .before .before .write-closed .result) _
@@ -31,8 +31,6 @@ close-spec =
     (λ c κs. search needs)
     (λ c. search needs)
     returns
-    (λ c. search needs)
-    (λ c. search needs)
     (λ c κs. search needs)
     (λ c. search needs)
     returns-2)

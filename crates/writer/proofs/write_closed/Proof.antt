@@ -9,39 +9,39 @@ use Rattle.writer.proofs.write_closed.Statement.{statement}
 use Rattle.writer.proofs.write_closed.Tie as tie
 
 abbrev start : tie.After-write-image → tie.Start
-start c = c .before .before .before .before .before
+start c = c .before .before .before .before
 
 finished-size-requires : tie.Need-finished-size-requires
 finished-size-requires c κs =
-    let s = c .before .before in
+    let s = c .before in
     let a = s .args in
-    let k = accepted (stateWith (a .w) (a .counts .now) (a .buf .now)) (s .pre .closes) in
+    let k = accepted (stateWith (a .w) (a .counts .now) (a .buf .now)) (s .pre) in
     omega (arith, stands (a .w) (a .counts .now) (a .buf .now) (k .fit) (k .fine) (k .all) .fits-word)
 
 write-image-requires : tie.Need-write-image-requires
 write-image-requires c κs =
-    let s = c .before .before .before .before in
+    let s = c .before .before .before in
     let a = s .args in
-    let k = accepted (stateWith (a .w) (a .counts .now) (a .buf .now)) (s .pre .closes) in
-    record { closable = stands (a .w) (a .counts .now) (a .buf .now) (k .fit) (k .fine) (k .all); known = s .pre .known }
+    let k = accepted (stateWith (a .w) (a .counts .now) (a .buf .now)) (s .pre) in
+    stands (a .w) (a .counts .now) (a .buf .now) (k .fit) (k .fine) (k .all)
 
 cast-result : tie.Need-cast-result
 cast-result c =
     let s = start (c .before .before) in
     let a = s .args in
-    let k = accepted (stateWith (a .w) (a .counts .now) (a .buf .now)) (s .pre .closes) in
+    let k = accepted (stateWith (a .w) (a .counts .now) (a .buf .now)) (s .pre) in
     omega (arith, c .before .before .before .before .finished-size .ensures, stands (a .w) (a .counts .now) (a .buf .now) (k .fit) (k .fine) (k .all) .fits-word)
 
 returns : tie.Need-returns
 returns c =
     let s = start (c .before .before) in
     let a = s .args in
-    let k = accepted (stateWith (a .w) (a .counts .now) (a .buf .now)) (s .pre .closes) in
+    let k = accepted (stateWith (a .w) (a .counts .now) (a .buf .now)) (s .pre) in
     record {
       gives = c .before .before .before .before .finished-size .ensures;
       leaves =
           ap (λ (t : State). t .buffer)
-          (closes-image (a .w) (a .counts .now) (a .buf .now) (k .fit) (k .fine) (k .all) _ (c .before .before .write-image .ensures));
+          (closes-image (a .w) (a .counts .now) (a .buf .now) (k .fit) (k .fine) (k .all) _ (c .before .before .write-image .ensures .leaves));
     }
 
 pub write-closed-spec : {M : Type 1} → statement M

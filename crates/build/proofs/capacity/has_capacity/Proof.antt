@@ -33,16 +33,13 @@ returns-3 : tie.Need-returns-3
 returns-3 c = λ e. absurd (false-not-true e)
 
 returns-4 : tie.Need-returns-4
-returns-4 c = λ e. absurd (false-not-true e)
-
-returns-5 : tie.Need-returns-5
-returns-5 c =
-    let f = c .before .before .before .before .before .before in
+returns-4 c =
+    let f = c .before .before .before .before in
     let s = start f in
     let a = s .args in
     λ e.
-    capacity-known (a .mode) (a .ends .now) (a .ids .now) (f .for-list .result) (a .room) (a .words) (f .for-list .ensures) (f .before .before .before .if1 .left) (s .pre)
-    (omega (arith, c .before .before .before .before .if2 .left)) (omega (arith, c .before .before .if3 .left)) (omega (arith, c .if4 .left))
+    capacity-known (a .mode) (a .ends .now) (a .ids .now) (f .for-list .result) (a .room) (f .for-list .ensures) (f .before .before .before .if1 .left) (s .pre)
+    (omega (arith, c .before .before .if2 .left)) (omega (arith, c .if3 .left))
 
 pub has-capacity-spec : {M : Type 1} → statement M
 has-capacity-spec =
@@ -56,5 +53,4 @@ has-capacity-spec =
     (λ c κs. search needs)
     returns-2
     returns-3
-    returns-4
-    returns-5)
+    returns-4)

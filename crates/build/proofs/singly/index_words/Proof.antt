@@ -1,35 +1,20 @@
 -- `build::singly::index_words` meets its contract. Assumes nothing.
 use native.Mathlib.Omega.{arith}
-use mathlib.Core.Path.{ap}
 use borrow.Author.Needs.{needs}
-use Rattle.writer.specs.State.{refusesRepeats}
 use Rattle.build.proofs.singly.index_words.Statement.{statement}
 use Rattle.build.proofs.singly.index_words.Tie as tie
 
 returns : tie.Need-returns
-returns c = record { within = omega arith; behind = λ six. omega arith; enough = λ some. absurd (omega arith); only-off = λ some. absurd (omega arith) }
+returns c = record { within = omega arith; enough = λ some. absurd (omega arith) }
 
 returns-2 : tie.Need-returns-2
-returns-2 c =
-    let e = c .before in
-    record {
-      within = omega arith;
-      behind = λ six. absurd (omega (arith, six, c .if2 .taken));
-      enough = λ some. omega (arith, e .if1 .left);
-      only-off = λ some. ap refusesRepeats (e .before .enum-told2 .given .1);
-    }
+returns-2 c = record { within = omega arith; enough = λ some. omega (arith, c .before .if1 .left) }
 
 returns-3 : tie.Need-returns-3
-returns-3 c = record { within = omega arith; behind = λ six. omega arith; enough = λ some. absurd (omega arith); only-off = λ some. absurd (omega arith) }
+returns-3 c = record { within = omega arith; enough = λ some. absurd (omega arith) }
 
 returns-4 : tie.Need-returns-4
-returns-4 c =
-    record {
-      within = omega (arith, c .if2 .left);
-      behind = λ six. omega arith;
-      enough = λ some. omega arith;
-      only-off = λ some. ap refusesRepeats (c .before .before .enum-told2 .given .1);
-    }
+returns-4 c = record { within = omega (arith, c .if2 .left); enough = λ some. omega arith }
 
 pub index-words-spec : {M : Type 1} → statement M
 index-words-spec =

@@ -6,88 +6,93 @@ use mathlib.Core.Path.{_≡_, refl, _∙_}
 use mathlib.Core.List.{List}
 use lib.ListN.{length}
 use lib.Seq.{sets}
+use Rattle.serialize.specs.steps.Partition.{tableOffsetsFrom}
 use Rattle.serialize.specs.steps.Written.{rowsFrom}
 use Rattle.serialize.proofs.HeadStores.{rows-step, rows-end}
+use Rattle.serialize.proofs.PartitionSteps.{table-offsets-step, table-offsets-end}
 use Rattle.serialize.proofs.head.write_rows.Statement.{statement}
 use Rattle.serialize.proofs.head.write_rows.Tie as tie
 
--- the rows from table t on, stored in this buffer, leave what all rows leave
-record Storing (counts : List ℕ) (end : ℕ) (buf₀ buf : List ℕ) (o t : ℕ) : Type 0 where
+-- the rows from table t on, stored in this buffer, leave what all rows leave, and so do the places
+record Storing (counts : List ℕ) (end : ℕ) (buf₀ places₀ buf places : List ℕ) (o t : ℕ) : Type 0 where
   most : t ≤ 256
   long : length buf ≡ length buf₀
-  leaves : sets buf (24 + 8 * t) (rowsFrom counts o t (256 - t)) ≡ sets buf₀ 24 (rowsFrom counts end 0 256)
+  rows : sets buf (24 + 8 * t) (rowsFrom counts o t (256 - t)) ≡ sets buf₀ 24 (rowsFrom counts end 0 256)
+  begins : sets places t (tableOffsetsFrom counts o t (256 - t)) ≡ sets places₀ 0 (tableOffsetsFrom counts end 0 256)
   near : o ≤ 4294967296 * (1 + 16 * t)
 
 abbrev Inv-loop : tie.InvT-loop
-Inv-loop buf₀ counts end o₀ t₀ buf o t = Storing counts end buf₀ buf o t
+Inv-loop buf₀ counts end places₀ o₀ t₀ buf places o t = Storing counts end buf₀ places₀ buf places o t
 
 abbrev μ-loop : tie.MeasureT-loop
-μ-loop buf₀ counts end o₀ t₀ buf o t = 256 - t
+μ-loop buf₀ counts end places₀ o₀ t₀ buf places o t = 256 - t
+
+-- ---- places in the code, each from a later one
+
+abbrev start : tie.At-loop Inv-loop μ-loop → tie.Start Inv-loop μ-loop
+start c = c .before .before
+
+abbrev entered : tie.After-as-u64 Inv-loop μ-loop → tie.In-loop Inv-loop μ-loop
+entered c = c .before .before
+
+abbrev counted : tie.After-low Inv-loop μ-loop → tie.After-as-u64 Inv-loop μ-loop
+counted c = c .before .before .before
+
+abbrev first : tie.After-low2 Inv-loop μ-loop → tie.After-low Inv-loop μ-loop
+first c = c .before .before .before .before .before
+
+abbrev second : tie.After-low3 Inv-loop μ-loop → tie.After-low2 Inv-loop μ-loop
+second c = c .before .before .before .before
+
+-- ---- the needs
 
 loop-holds : tie.Need-loop-holds Inv-loop μ-loop
-loop-holds c = record { most = omega arith; long = refl; leaves = refl; near = omega arith }
+loop-holds c = record { most = omega arith; long = refl; rows = refl; begins = refl; near = omega arith }
 
-mul-as-u64 : tie.Need-mul-as-u64 Inv-loop μ-loop
-mul-as-u64 c = omega arith
+inside : (c : tie.In-loop Inv-loop μ-loop) → 32 + 8 * c .before .loop .t ≤ length (c .before .loop .buf)
+inside c = omega (arith, c .loop-test .taken, start (c .before) .pre, c .before .loop .inv .long)
 
-element-copy-out-as-u64 : tie.Need-element-copy-out-as-u64 Inv-loop μ-loop
-element-copy-out-as-u64 c = omega arith
+store-word-requires : tie.Need-store-word-requires Inv-loop μ-loop
+store-word-requires c κs = omega (arith, inside (entered (counted c)))
 
-mul-put-u32 : tie.Need-mul-put-u32 Inv-loop μ-loop
-mul-put-u32 c = omega arith
-
-add-put-u32 : tie.Need-add-put-u32 Inv-loop μ-loop
-add-put-u32 c = omega arith
-
-mul-put-u32-2 : tie.Need-mul-put-u32-2 Inv-loop μ-loop
-mul-put-u32-2 c = omega arith
-
-add-put-u32-2 : tie.Need-add-put-u32-2 Inv-loop μ-loop
-add-put-u32-2 c = omega arith
-
-mul-low : tie.Need-mul-low Inv-loop μ-loop
-mul-low c = omega (arith, c .before .before .before .before .before .before .before .as-u64 .ensures .small)
-
--- the count that was read, where both words of the row are stored
-abbrev counted : tie.After-put-u322 Inv-loop μ-loop → tie.After-as-u64 Inv-loop μ-loop
-counted c = c .before .before .before .before .before .before .before .before .before
-
-mul-o : tie.Need-mul-o Inv-loop μ-loop
-mul-o c = omega (arith, counted (c .before .before) .as-u64 .ensures .small)
+store-word-requires-2 : tie.Need-store-word-requires-2 Inv-loop μ-loop
+store-word-requires-2 c κs = omega (arith, inside (entered (counted (first c))), c .before .before .before .before .store-word .kept .0)
 
 add-o : tie.Need-add-o Inv-loop μ-loop
 add-o c =
-    let w = counted (c .before .before) in
-    omega (arith, w .as-u64 .ensures .small, w .before .before .before .loop .inv .near, w .before .before .loop-test .taken)
-
-add-t : tie.Need-add-t Inv-loop μ-loop
-add-t c = omega arith
-
-loop-less : tie.Need-loop-less Inv-loop μ-loop
-loop-less c = omega arith
+    let w = counted (first (second c)) in
+    omega (arith, w .as-u64 .ensures .small, entered w .before .loop .inv .near, entered w .loop-test .taken)
 
 loop-again : tie.Need-loop-again Inv-loop μ-loop
 loop-again c =
-    let stored = c .before .before in
-    let w = counted stored in
-    let i = w .before .before .before .loop in
-    let less = w .before .before .loop-test .taken in
-    let first = stored .before .before .before .before .before in
+    let two = second c in
+    let one = first two in
+    let w = counted one in
+    let l = entered w .before in
+    let i = l .loop in
+    let less = entered w .loop-test .taken in
+    let counts = start l .args .counts .now in
+    let stored = two .before .before .before .before in
+    let again = c .before .before .before in
     record {
-      most = omega arith;
-      long = stored .put-u322 .kept .0 ∙ first .put-u32 .kept .0 ∙ i .inv .long;
-      leaves =
-          rows-step (w .before .before .before .before .before .args .counts .now) (i .buf) _ (i .o) (i .t) 256 less (w .as-u64 .ensures .is)
-          (first .before .before .row-offset .ensures) (first .before .low .ensures)
-          (stored .before .low2 .ensures) (first .put-u32 .ensures) (stored .put-u322 .ensures) (i .inv .leaves);
+      most = omega (arith, less);
+      long = again .store-word2 .kept .0 ∙ stored .store-word .kept .0 ∙ i .inv .long;
+      rows =
+          rows-step counts (i .buf) _ (i .o) (i .t) 256 less (w .as-u64 .ensures .is) (one .before .row-offset .ensures) (one .low .ensures) (two .low2 .ensures)
+          (stored .store-word .ensures) (again .store-word2 .ensures) (i .inv .rows);
+      begins = table-offsets-step counts (i .places) _ (i .o) (i .t) 256 (c .low3 .result) (w .as-u64 .result) less (c .low3 .ensures) (w .as-u64 .ensures .is) (i .inv .begins);
       near = omega (arith, w .as-u64 .ensures .small, i .inv .near);
     }
 
 returns : tie.Need-returns Inv-loop μ-loop
 returns c =
-    let z : 256 - c .before .loop .t ≡ 0 = omega arith in
-    rows-end (c .before .before .before .args .counts .now) (c .before .loop .buf) _ (c .before .loop .o) (c .before .loop .t)
-    (24 + 8 * c .before .loop .t) (rw z at (c .before .loop .inv .leaves))
+    let l = c .before .loop in
+    let counts = start (c .before) .args .counts .now in
+    let z : 256 - l .t ≡ 0 = omega (arith, c .loop-test .left) in
+    record {
+      rows = rows-end counts (l .buf) _ (l .o) (l .t) (24 + 8 * l .t) (rw z at (l .inv .rows));
+      begins = table-offsets-end counts (l .places) _ (l .o) (l .t) (l .t) (rw z at (l .inv .begins));
+    }
 
 pub write-rows-spec : {M : Type 1} → statement M
 write-rows-spec =
@@ -96,23 +101,26 @@ write-rows-spec =
     Inv-loop
     μ-loop
     loop-holds
-    mul-as-u64
-    element-copy-out-as-u64
+    (λ c. omega arith)
+    (λ c. omega arith)
     (λ c κs. search needs)
-    mul-put-u32
-    add-put-u32
-    (λ c κs. search needs)
-    (λ c κs. search needs)
-    (λ c κs. search needs)
-    mul-put-u32-2
-    add-put-u32-2
-    mul-low
+    (λ c. omega arith)
+    (λ c. omega arith)
     (λ c κs. search needs)
     (λ c κs. search needs)
-    mul-o
+    store-word-requires
+    (λ c. omega arith)
+    (λ c. omega arith)
+    (λ c. omega (arith, counted (c .before .before .before .before) .as-u64 .ensures .small))
+    (λ c κs. search needs)
+    store-word-requires-2
+    (λ c κs. search needs)
+    (λ c. omega arith)
+    (λ c. omega arith)
+    (λ c. omega (arith, counted (first (second c)) .as-u64 .ensures .small))
     add-o
-    add-t
-    loop-less
+    (λ c. omega arith)
+    (λ c. omega arith)
     loop-again
-    (λ c. search needs)
+    (λ c. c .before .loop .inv .long)
     returns)

@@ -12,10 +12,10 @@ returns : tie.Need-returns
 returns c =
     let a = start (c .before) .args in
     row-none (a .buf .now) (a .h) (a .at) (c .before .before .before .before .before .table-at .ensures .is)
-    (c .before .before .before .bucket-number .ensures .is) (c .before .holds-table .ensures) (not-true _ (c .if1 .taken))
+    (c .before .before .before .bucket-number .ensures .is) (c .before .holds-table .ensures) (a .end) (not-true _ (c .if1 .taken))
 
 insert-pair-requires : tie.Need-insert-pair-requires
-insert-pair-requires c κs = table-in (c .before .before .holds-table .ensures) (not-false _ (c .before .if1 .left))
+insert-pair-requires c κs = table-in (c .before .before .holds-table .ensures) (not-false _ (c .before .if1 .left)) (start (c .before .before) .pre)
 
 returns-2 : tie.Need-returns-2
 returns-2 c =
@@ -23,7 +23,7 @@ returns-2 c =
     let a = start (left .before) .args in
     row-inserted (a .buf .now) (a .h) (a .at) (left .before .before .before .before .before .table-at .ensures .is)
     (left .before .before .before .bucket-number .ensures .is) (left .before .holds-table .ensures)
-    (not-false _ (left .if1 .left)) (c .before .before .insert-pair .ensures)
+    (a .end) (not-false _ (left .if1 .left)) (c .before .before .insert-pair .ensures)
 
 pub insert-by-row-spec : {M : Type 1} → statement M
 insert-by-row-spec =

@@ -9,10 +9,10 @@ use Rattle.serialize.proofs.insert.insert_entries.Statement.{statement}
 use Rattle.serialize.proofs.insert.insert_entries.Tie as tie
 
 abbrev Inv-loop : tie.InvT-loop
-Inv-loop mode back-offset buf₀ end entries at₀ left₀ buf at left = Inserting mode back-offset end entries buf₀ buf at left
+Inv-loop mode back-offset buf₀ end entries at₀ left₀ met₀ buf at left met = Inserting mode back-offset end entries buf₀ buf at left met
 
 abbrev μ-loop : tie.MeasureT-loop
-μ-loop mode back-offset buf₀ end entries at₀ left₀ buf at left = left
+μ-loop mode back-offset buf₀ end entries at₀ left₀ met₀ buf at left met = left
 
 -- the entry that was read lies before the end
 entry : (c : tie.Else1 Inv-loop μ-loop)
@@ -25,7 +25,7 @@ entry c =
     (n .ensures .small) (c .if1 .left)
 
 loop-holds : tie.Need-loop-holds Inv-loop μ-loop
-loop-holds c = record { inside = c .before .pre .low; long = refl; leaves = refl }
+loop-holds c = record { inside = c .before .pre .low; long = refl; leaves = refl; unmet = λ z rest. rest }
 
 returns : tie.Need-returns Inv-loop μ-loop
 returns c =
@@ -33,7 +33,13 @@ returns c =
     (c .before .whole-length .ensures .is) (c .if1 .taken)
 
 insert-entry-requires : tie.Need-insert-entry-requires Inv-loop μ-loop
-insert-entry-requires c κs = record { entry = entry (c .before) .1; back-word = c .before .before .before .before .before .before .before .pre .back-word }
+insert-entry-requires c κs =
+    let s = c .before .before .before .before .before .before .before in
+    record {
+      entry = entry (c .before) .1;
+      front = omega (arith, s .pre .inside, c .before .before .before .before .before .loop .inv .long);
+      back-word = s .pre .back-word;
+    }
 
 -- the entry, where it has been inserted
 abbrev read : tie.After-insert-entry Inv-loop μ-loop → tie.Else1 Inv-loop μ-loop

@@ -1,32 +1,34 @@
 -- `serialize::partition::partition_entries` meets its contract. Assumes nothing.
 use native.Mathlib.Omega.{arith}
 use borrow.Author.Needs.{needs}
-use Prim.Native.Nat.{_+_, _-_, _<_, _≤_}
+use Prim.Native.Nat.{_+_, _<_, _≤_}
 use mathlib.Core.Path.{refl}
 use Rattle.serialize.specs.steps.Insertion.{EntryPre}
 use Rattle.serialize.proofs.Insertion.{entry-in}
-use Rattle.serialize.proofs.PartitionSteps.{Partitioning, partitioned-start, partitioned-broken, partitioned-step, partitioned-all}
+use Rattle.serialize.proofs.PartitionSteps.{Partitioning, partitioned-broken, partitioned-step, partitioned-all}
 use Rattle.serialize.proofs.partition.partition_entries.Statement.{statement}
 use Rattle.serialize.proofs.partition.partition_entries.Tie as tie
 
 abbrev Inv-loop : tie.InvT-loop
-Inv-loop mode back-offset hashes buf₀ places₀ end entries at₀ i₀ buf places at i =
-    Partitioning mode back-offset end hashes entries places₀ buf₀ places buf at i
+Inv-loop mode back-offset buf₀ places₀ end entries at₀ left₀ buf places at left = Partitioning mode back-offset end entries places₀ buf₀ places buf at left
 
 abbrev μ-loop : tie.MeasureT-loop
-μ-loop mode back-offset hashes buf₀ places₀ end entries at₀ i₀ buf places at i = entries - i
+μ-loop mode back-offset buf₀ places₀ end entries at₀ left₀ buf places at left = left
 
 -- ---- places in the code, each told from a later one
 
 abbrev start : tie.At-loop Inv-loop μ-loop → tie.Start Inv-loop μ-loop
-start c = c .before .before .before
+start c = c .before .before
 
 abbrev entered : tie.Else1 Inv-loop μ-loop → tie.In-loop Inv-loop μ-loop
 entered c = c .before .before .before
 
--- the entry, where it has been inserted
+abbrev hashed : tie.After-hash-at Inv-loop μ-loop → tie.Else1 Inv-loop μ-loop
+hashed c = c .before .before .before .before
+
+-- the entry, where it has been partitioned
 abbrev read : tie.After-partition-entry Inv-loop μ-loop → tie.Else1 Inv-loop μ-loop
-read c = c .before .before .before
+read c = hashed (c .before .before .before)
 
 -- the entry that was read lies before the end
 entry : (c : tie.Else1 Inv-loop μ-loop)
@@ -40,41 +42,29 @@ entry c =
 -- ---- the needs
 
 loop-holds : tie.Need-loop-holds Inv-loop μ-loop
-loop-holds c = partitioned-start (c .before .before .pre .low) refl
+loop-holds c = record { inside = c .before .pre .low; long = refl; leaves = refl }
 
 returns : tie.Need-returns Inv-loop μ-loop
 returns c =
     let e = c .before .before .before in
     partitioned-broken (e .before .loop .inv) (e .loop-test .taken) (c .before .whole-length .ensures .is) (c .if1 .taken)
 
-partition-entry-requires : tie.Need-partition-entry-requires Inv-loop μ-loop
-partition-entry-requires c κs =
-    let e = c .before .before in
-    record { entry = entry e .1; back-word = start (entered e .before) .pre .back-word }
-
 -- the place behind it is a word
 next-word : (c : tie.After-partition-entry Inv-loop μ-loop)
     → let e = read c in entered e .before .loop .at + (8 + e .before .whole-length .result) < 4294967296
 next-word c = let e = read c in omega (arith, entry e .0, start (entered e .before) .pre .end-word)
 
-add-at : tie.Need-add-at Inv-loop μ-loop
-add-at c = omega (arith, next-word (c .before .before))
-
-add-at-2 : tie.Need-add-at-2 Inv-loop μ-loop
-add-at-2 c = omega (arith, next-word (c .before .before))
-
-loop-less : tie.Need-loop-less Inv-loop μ-loop
-loop-less c = omega (arith, entered (read (c .before .before)) .loop-test .taken)
-
 loop-again : tie.Need-loop-again Inv-loop μ-loop
 loop-again c =
-    let e = read (c .before .before) in
-    let done = c .before .before .partition-entry in
+    let p = c .before .before in
+    let e = read p in
+    let done = p .partition-entry in
+    let h = p .before .before .before in
     partitioned-step (entered e .before .loop .inv) (entered e .loop-test .taken) (e .before .whole-length .ensures .is) (e .if1 .left)
-    (entry e .0) (done .last .1 .1 .1 .1 .1 .0) (done .last .1 .1 .1 .1 .0) (done .kept .1 .1 .1 .1 .0) (done .ensures)
+    (entry e .0) (done .last .1 .1 .1 .0) (done .last .1 .1 .0) (done .kept .1 .1 .0) (h .before .before .get-u32 .ensures) (h .hash-at .ensures) (done .ensures)
 
 returns-2 : tie.Need-returns-2 Inv-loop μ-loop
-returns-2 c = partitioned-all (c .before .loop .inv) (c .loop-test .left)
+returns-2 c = partitioned-all (c .before .loop .inv) (omega (arith, c .loop-test .left))
 
 pub partition-entries-spec : {M : Type 1} → statement M
 partition-entries-spec =
@@ -86,12 +76,14 @@ partition-entries-spec =
     (λ c κs. search needs)
     (λ c. search needs)
     returns
-    (λ c. search needs)
-    partition-entry-requires
-    add-at
-    add-at-2
-    (λ c. search needs)
-    loop-less
+    (λ c κs. search needs)
+    (λ c κs. entry (c .before .before .before) .1)
+    (λ c. let e = hashed (c .before .before) in omega (arith, entry e .0, start (entered e .before) .pre .end-word))
+    (λ c κs. start (entered (hashed (c .before .before)) .before) .pre .back-word)
+    (λ c. omega (arith, next-word (c .before .before)))
+    (λ c. omega (arith, next-word (c .before .before)))
+    (λ c. omega (arith, entered (read (c .before .before)) .loop-test .taken))
+    (λ c. omega (arith, entered (read (c .before .before)) .loop-test .taken))
     loop-again
     (λ c. search needs)
     returns-2)

@@ -1,0 +1,186 @@
+-- The image of all names, written straight into the buffer: what holds before each turn, and at the end. Assumes nothing.
+use Prim.Native.Nat.{ℕ, suc, _+_, _*_, _-_, _^_, _≤_, _<_}
+use native.Mathlib.Omega.{arith}
+use mathlib.Core.Path.{_≡_, refl, sym, ap, ap₂, subst, _∙_}
+use mathlib.Core.Bool.{Bool, false}
+use mathlib.Core.List.{List, [], _∷_, _++_}
+use lib.ListN.{length, getD, take, drop, replicate}
+use lib.Seq.{sets, take-all}
+use Rattle.jhash.specs.NameHash.{hashOf}
+use Rattle.image.specs.declared.Mode.{Mode}
+use Rattle.image.specs.Stored.{between}
+use Rattle.image.specs.Image.{Entry, headSize, entryBytes, entriesSize, backIn, backSize, backSizeOf, backOffset, entriesEnd, imageSize, headWords, tableRows, backWords}
+use Rattle.image.proofs.AllOfList.{All}
+use Rattle.image.proofs.Between.{length-between}
+use Rattle.image.proofs.Parts.{placedIn}
+use Rattle.image.proofs.Sizes.{entriesSize-append, length-placed, backIn-twice}
+use Rattle.packed.specs.Names.{names, nth, invalidEnds, beginOf}
+use Rattle.packed.proofs.NameEnds.{length-names, nth-name, placed, begin-later, begin-next, begins-rise}
+use Rattle.serialize.specs.steps.Partition.{tableOffsetsFrom, EntryPartitioned}
+use Rattle.serialize.specs.steps.Written.{begunImage}
+use Rattle.serialize.specs.steps.Meeting.{AllDone}
+use Rattle.serialize.proofs.Cleared.{Numbers, size-is, begun-is}
+use Rattle.serialize.proofs.WrittenImage.{Imaged, all-imaged, all-told}
+use Rattle.writer.specs.Put.{entryOf}
+use Rattle.lists.specs.Calls.{puts}
+use Rattle.build.specs.Build.{callsOf}
+use Rattle.build.specs.Needs.{idsBack}
+use Rattle.build.specs.steps.Steps.{entriesListed}
+use Rattle.build.specs.steps.Stores.{listEntries, WriteListPre}
+use Rattle.build.proofs.AllPut.{number-all, end-all, back-is, size-within, size-small}
+use Rattle.build.proofs.StoredAll.{next-entry, split-there, StoringTo, storing-first, storing-last, storing-step}
+
+-- names of a list that has room are short
+pub names-short : (bytes ends : List ℕ) → invalidEnds (length bytes) 0 ends ≡ false → beginOf ends (length ends) < 4294967295
+    → (j : ℕ) → j < length ends → length (nth (names bytes ends) j) < 4294967295
+names-short bytes ends good small j h =
+    let p = placed (length bytes) ends j good h in
+    omega
+    (arith, ap length (nth-name bytes ends j h) ∙ length-between bytes (beginOf ends j) (getD ends j 0) (p .rises) (p .inside), begin-next ends j, begins-rise (length bytes) ends good (length ends) (j + 1) (omega arith) (omega arith))
+
+ids-listed : (xs : List (List ℕ)) (ids : List ℕ) → ((i : ℕ) → i < length xs → getD ids i 0 < 2 ^ 32) → All (λ (e : Entry). e .id < 2 ^ 32) (entriesListed xs ids)
+unfolding callsOf puts
+ids-listed [] ids h = tt
+ids-listed (x ∷ xs) [] h = tt
+ids-listed (x ∷ xs) (id ∷ ids) h = (h 0 (omega arith), ids-listed xs ids (λ i k. h (suc i) (omega arith)))
+
+-- an image of es that was begun: what stands in the place of the entries, of the tables, and behind the image
+pub record Begun (mode : Mode) (es : List Entry) (b0 E X tail : List ℕ) : Type 0 where
+  pub room : length E ≡ entriesSize es
+  pub area : length X ≡ 16 * length (placedIn es)
+  pub is : b0 ≡ headWords mode es ++ tableRows (entriesEnd es) (placedIn es) ++ E ++ X ++ backWords [] (backSizeOf mode es) ++ tail
+
+-- before the turn of the i-th name, whose entry goes to `at`; b0 is the image as it was begun
+pub record Turn (mode : Mode) (b0 bytes ends ids buf places : List ℕ) (at i : ℕ) : Type 0 where
+  pub inside : i ≤ length ends
+  pub long : length buf ≡ length b0
+  pub offset : at ≡ headSize + entriesSize (take i (listEntries bytes ends ids))
+  pub storing : (E X tail : List ℕ) → Begun mode (listEntries bytes ends ids) b0 E X tail
+      → StoringTo mode (listEntries bytes ends ids) E X tail (take i (listEntries bytes ends ids)) buf places at
+
+module _ {mode : Mode} {counts hashes buffer bytes ends ids : List ℕ} (pre : WriteListPre mode counts hashes buffer bytes ends ids)
+    (words : (i : ℕ) → i < length ends → getD ids i 0 < 2 ^ 32) where
+  abbrev es : List Entry
+  es = listEntries bytes ends ids
+
+  abbrev E : List ℕ
+  E = between buffer headSize (entriesEnd es)
+
+  abbrev X : List ℕ
+  X = between buffer (entriesEnd es) (entriesEnd es + 16 * length es)
+
+  abbrev tail : List ℕ
+  tail = drop (imageSize mode es) buffer
+
+  pub small : imageSize mode (listEntries bytes ends ids) ≤ 4294967295
+  small = size-small mode bytes ends ids (pre .list .packed) (pre .list .ids-long) (pre .capacity .fits)
+
+  pub within : imageSize mode (listEntries bytes ends ids) ≤ length buffer
+  within = size-within mode bytes ends ids (pre .list .packed) (pre .list .ids-long) (pre .capacity .fits)
+
+  pub as-many : length ends ≡ length (listEntries bytes ends ids)
+  as-many = sym (number-all bytes ends ids (pre .list .packed) (pre .list .ids-long))
+
+  pub end-is : headSize + 9 * length ends + getD ends (length ends - 1) 0 ≡ entriesEnd (listEntries bytes ends ids)
+  end-is =
+      omega
+      (arith, end-all bytes ends ids (pre .list .packed) (pre .list .ids-long), begin-later ends (length ends) (λ z. omega (arith, z, pre .capacity .some)))
+
+  pub back-of-all : backIn mode (idsBack (take (length ends) ids)) ≡ backSizeOf mode (listEntries bytes ends ids)
+  back-of-all = sym (back-is mode bytes ends ids (pre .list .packed) (pre .list .ids-long))
+
+  ids-all : All (λ (e : Entry). e .id < 2 ^ 32) es
+  ids-all = ids-listed (names bytes ends) ids (λ i h. words i (omega (arith, length-names bytes ends)))
+
+  room : length E ≡ entriesSize es
+  room =
+      length-between buffer headSize (entriesEnd es) (omega arith) (omega (arith, within)) ∙ same (entriesSize es)
+    where
+      same : (n : ℕ) → headSize + n - headSize ≡ n
+      same n = omega arith
+
+  area : length X ≡ 16 * length (placedIn es)
+  area =
+      length-between buffer (entriesEnd es) (entriesEnd es + 16 * length es) (omega arith) (omega (arith, within))
+      ∙ same (entriesEnd es) (length es) (length-placed headSize es)
+    where
+      same : (a n : ℕ) {m : ℕ} → m ≡ n → a + 16 * n - a ≡ 16 * m
+      same a n e = omega arith
+
+  pub numbers : {end entries back : ℕ} → end ≡ entriesEnd (listEntries bytes ends ids) → entries ≡ length (listEntries bytes ends ids)
+      → back ≡ backSizeOf mode (listEntries bytes ends ids) → Numbers mode end entries back counts buffer (listEntries bytes ends ids)
+  numbers ee en eb =
+      record {
+        ends = ee;
+        number = en;
+        backs = eb;
+        tallies = pre .tallies;
+        inside = omega (arith, ee, en, ap (backIn mode) eb ∙ backIn-twice mode (backSize es), within);
+      }
+
+  begun : {end entries back : ℕ} → end ≡ entriesEnd es → entries ≡ length es → back ≡ backSizeOf mode es → {b0 : List ℕ}
+      → b0 ≡ begunImage mode end entries back counts buffer → Begun mode es b0 E X tail
+  begun {end} {entries} {back} ee en eb e0 =
+      let N = numbers {end = entriesEnd es} {entries = length es} {back = backSizeOf mode es} refl refl refl in
+      record {
+        room = room;
+        area = area;
+        is =
+            e0
+            ∙ ap (λ (k : ℕ). begunImage mode k entries back counts buffer) ee
+            ∙ ap₂ (λ (k j : ℕ). begunImage mode (entriesEnd es) k j counts buffer) en eb
+            ∙ begun-is mode (entriesEnd es) (length es) (backSizeOf mode es) counts buffer es N
+            ∙ ap (λ (k : ℕ). headWords mode es ++ tableRows (entriesEnd es) (placedIn es) ++ E ++ X ++ backWords [] (backSizeOf mode es) ++ drop k buffer)
+            (size-is mode (entriesEnd es) (length es) (backSizeOf mode es) counts buffer es N);
+      }
+
+  pub turn-first : (b0 : List ℕ) {end : ℕ} → end ≡ entriesEnd (listEntries bytes ends ids) → {places : List ℕ}
+      → places ≡ sets (replicate 256 0) 0 (tableOffsetsFrom counts end 0 256) → Turn mode b0 bytes ends ids b0 places 2072 0
+  unfolding entriesSize
+  turn-first b0 ee ep =
+      let where-tables = ep ∙ ap (λ (k : ℕ). sets (replicate 256 0) 0 (tableOffsetsFrom counts k 0 256)) ee in
+      record {
+        inside = omega arith;
+        long = refl;
+        offset = refl;
+        storing = λ F Y rest b. subst (λ (q : List ℕ). StoringTo mode es F Y rest [] b0 q 2072) (sym where-tables)
+            (storing-first mode es F Y rest (b .room) (b .area) (b .is) counts (pre .tallies) small);
+      }
+
+  module _ {b0 buf places : List ℕ} {at i : ℕ} (g : Turn mode b0 bytes ends ids buf places at i) where
+    module _ (below : i < length ends) {name : List ℕ} (named : name ≡ nth (names bytes ends) i) where
+      abbrev e : Entry
+      e = entryOf name (getD ids i 0)
+
+      split : es ≡ take i es ++ e ∷ drop (suc i) es
+      split = split-there bytes ends ids (pre .list .ids-long) i below name named
+
+      -- the entry ends where the entries end, or before
+      pub turn-room : at + (length name + 9) ≤ entriesEnd (listEntries bytes ends ids)
+      unfolding entriesSize
+      turn-room = omega (arith, g .offset, ap entriesSize split ∙ entriesSize-append (take i es) (e ∷ drop (suc i) es))
+
+      pub turn-step : {b1 b2 places′ : List ℕ} → b1 ≡ sets buf at (entryBytes (entryOf name (getD ids i 0))) → {l h : ℕ} → l ≡ backOffset mode (listEntries bytes ends ids)
+          → h ≡ getD hashes i 0 → EntryPartitioned mode l at (getD ids i 0) h places b1 places′ b2 → length b2 ≡ length b0
+          → Turn mode b0 bytes ends ids b2 places′ (at + (9 + length name)) (i + 1)
+      unfolding entriesSize
+      turn-step {b1} {b2} {places′} e1 el eh done same =
+          let next = next-entry bytes ends ids (pre .list .ids-long) i below name named in
+          record {
+            inside = omega arith;
+            long = same;
+            offset = omega (arith, g .offset, ap entriesSize next ∙ entriesSize-append (take i es) (e ∷ []));
+            storing = λ F Y rest b. subst (λ (qs : List Entry). StoringTo mode es F Y rest qs b2 places′ (at + (9 + length name))) (sym next)
+                (storing-step mode es F Y rest (b .room) (b .area) (take i es) (drop (suc i) es) e split small ids-all (g .storing F Y rest b) e1 el refl
+                (eh ∙ pre .hashed i below ∙ ap hashOf (sym named)) done);
+          }
+
+    pub turn-last : length ends ≤ i → {l end entries back n : ℕ} {after : List ℕ} {met : Bool} → l ≡ backOffset mode (listEntries bytes ends ids)
+        → end ≡ entriesEnd (listEntries bytes ends ids) → entries ≡ length (listEntries bytes ends ids) → back ≡ backSizeOf mode (listEntries bytes ends ids)
+        → n ≡ imageSize mode (listEntries bytes ends ids) → b0 ≡ begunImage mode end entries back counts buffer → AllDone mode l end entries n counts buf after met
+        → Imaged mode (listEntries bytes ends ids) (drop (imageSize mode (listEntries bytes ends ids)) buffer) after met
+    turn-last last el ee en eb size e0 done =
+        all-imaged mode es tail small ids-all X counts area (pre .tallies)
+        (storing-last mode es E X tail room area
+        (subst (λ (qs : List Entry). StoringTo mode es E X tail qs buf places at) (take-all i es (omega (arith, as-many))) (g .storing E X tail (begun ee en eb e0))))
+        (all-told counts buf el ee en size done)
