@@ -564,12 +564,6 @@ pub fn put_in(record: &mut Record, counts: &mut Counts, buf: &mut [u8], name: &[
     unsafe { cqdb_put_parts(numbers, sizes, counts.as_mut_ptr(), buf, len, name.as_ptr(), name.len(), id) }
 }
 
-/// One put, with the record to go on with.
-pub fn put(mut record: Record, counts: &mut Counts, buf: &mut [u8], name: &[u8], id: u32) -> RecordAnswer {
-    let refusal = put_in(&mut record, counts, buf, name, id);
-    RecordAnswer { refusal, record }
-}
-
 /// One close.
 pub fn close(record: Record, counts: &Counts, buf: &mut [u8]) -> CloseAnswer {
     let (numbers, sizes) = read_in_place(&record);

@@ -37,9 +37,7 @@ impl Writer {
     }
 
     fn put(&mut self, name: &[u8], id: u32) {
-        let answer = archive::put(self.record, &mut self.counts, &mut self.buffer, name, id);
-        assert_eq!(answer.refusal, 0);
-        self.record = answer.record;
+        assert_eq!(archive::put_in(&mut self.record, &mut self.counts, &mut self.buffer, name, id), 0);
     }
 
     fn close(&mut self) {
@@ -87,8 +85,8 @@ fn a_name_with_a_zero_byte_is_refused_and_changes_nothing() {
     let mut name = [b'x'; 32];
     name[24..].copy_from_slice(&[0x22, 0x08, 0, 0, 0x18, 0x08, 0, 0]);
     let (record, counts, buffer) = (writer.record, writer.counts, writer.buffer.clone());
-    let answer = archive::put(record, &mut writer.counts, &mut writer.buffer, &name, 2);
-    assert_eq!((answer.refusal, answer.record), (13, record));
+    let refusal = archive::put_in(&mut writer.record, &mut writer.counts, &mut writer.buffer, &name, 2);
+    assert_eq!((refusal, writer.record), (13, record));
     assert_eq!((writer.counts, &writer.buffer), (counts, &buffer));
     assert_eq!([writer.image().to_str(0), writer.image().to_str(1)], [Some(BStr::new(b"A")), Some(BStr::new(b"B"))]);
 }

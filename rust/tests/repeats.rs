@@ -14,9 +14,7 @@ fn by_the_archive(flag: Flag, repeats: u32, puts: &[(Vec<u8>, u32)]) -> (Vec<u32
     let mut record = archive::begin(flag.bits(), repeats, &mut counts, &buffer).record;
     let mut answers = Vec::new();
     for (name, id) in puts {
-        let answer = archive::put(record, &mut counts, &mut buffer, name, *id);
-        record = answer.record;
-        answers.push(answer.refusal);
+        answers.push(archive::put_in(&mut record, &mut counts, &mut buffer, name, *id));
     }
     let closed = archive::close(record, &counts, &mut buffer);
     assert_eq!(closed.refusal, 0);
