@@ -39,8 +39,8 @@ whole c = c .before .before
 abbrev hashed : tie.After-check-entry Inv-loop μ-loop → tie.After-hash-or-zero Inv-loop μ-loop
 hashed c = c .before .before .before .before
 
-abbrev checked : tie.After-one-if-equal Inv-loop μ-loop → tie.After-check-entry Inv-loop μ-loop
-checked c = c .before .before .before .before .before
+abbrev valid : tie.After-one-if-equal Inv-loop μ-loop → tie.Else2 Inv-loop μ-loop
+valid c = c .before .before .before .before
 
 -- ---- what holds there
 
@@ -117,13 +117,14 @@ raise-requires c κs =
 
 loop-again : tie.Need-loop-again Inv-loop μ-loop
 loop-again c =
-    let k = checked c in
+    let v = valid c in
+    let k = v .before in
     let e = whole (hashed k) in
     let t = in-loop e in
     let raised = c .before .before .raise in
     rw (c .before .larger .ensures)
     (entering-next (t .before .loop .inv) (start (t .before) .pre .area .inside) (t .loop-test .taken) (read k)
-    (not-false _ (c .before .before .before .before .if2 .left))
+    (not-false _ (v .if2 .left))
     (c .one-if-equal .result) (raised .last .0) (e .before .whole-length .ensures .small) (k .before .before .before .size-at .ensures .small)
     (c .one-if-equal .ensures) (raised .ensures))
 

@@ -13,8 +13,8 @@ begun c = c .before .before .before .before
 
 returns : tie.Need-returns
 returns c =
-    let a = c .before .before .before .before .args in
     let n = c .before .bucket-number in
+    let a = c .before .before .before .before .args in
     bucket-none (a .image .now) (a .h) (a .at) (n .result) (n .ensures .is) (c .if1 .taken)
 
 -- the table lies in the image, and the bucket that was found in it

@@ -58,10 +58,13 @@ room c =
     (row-room (image-of (in-loop e)) (l .loop .o) (row (in-loop e)) (tableAt (image-of (in-loop e)) (row (in-loop e))) (l .before .before .pre .tables)
     ((in-loop e) .loop-test .taken) (l .loop .inv .some) (l .loop .inv .inside) (even e) refl (there c))
 
--- what the table's check says
-table : (c : tie.After-check-table Inv-loop μ-loop) → let l = in-loop (c .before .before .before .before) in
+-- what the table's check says; its number of buckets is even
+abbrev evened : tie.After-check-table Inv-loop μ-loop → tie.Else1 Inv-loop μ-loop
+evened c = c .before .before .before .before
+
+table : (c : tie.After-check-table Inv-loop μ-loop) → let l = in-loop (evened c) in
     c .check-table .result ≡ tableOk (image-of l) (l .before .loop .o) (rowCount (image-of l) (row l))
-table c = rw (count (c .before .before .before .before .before)) at (c .check-table .ensures)
+table c = rw (count (evened c .before)) at (c .check-table .ensures)
 
 loop-holds : tie.Need-loop-holds Inv-loop μ-loop
 loop-holds c = rows-start (c .before .pre)
@@ -83,7 +86,7 @@ check-table-requires c κs = record { inside = room c; number = search needs }
 
 returns-3 : tie.Need-returns-3 Inv-loop μ-loop
 returns-3 c =
-    let e = c .before .before .before .before .before in
+    let e = evened (c .before) in
     let l = in-loop e in
     row-table (l .before .loop .inv) (l .loop-test .taken) (even e) (there (c .before .before)) (sym (table (c .before)) ∙ not-true _ (c .if3 .taken))
 
@@ -92,7 +95,7 @@ add-o c = let r = room (c .before .before) in omega arith
 
 loop-again : tie.Need-loop-again Inv-loop μ-loop
 loop-again c =
-    let e = c .before .before .before .before .before in
+    let e = evened (c .before) in
     let l = in-loop e in
     rw (count (e .before))
     (row-next (l .before .loop .inv) (l .loop-test .taken) (even e) (there (c .before .before)) (l .before .before .before .pre .tables)

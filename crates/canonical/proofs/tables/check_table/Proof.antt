@@ -25,15 +25,19 @@ loop-holds c =
     let a = c .before .args in
     record { number = refl; buckets = buckets-start (a .image .now) (a .o) (2 * a .c) }
 
+-- the loop, from where a bucket was counted
+abbrev in-loop : tie.After-used-bit Inv-loop μ-loop → tie.In-loop Inv-loop μ-loop
+in-loop c = c .before .before .before
+
 -- the buckets up to this one
 next : (c : tie.After-used-bit Inv-loop μ-loop)
-    → let l = c .before .before .before .before .loop in
-    let a = c .before .before .before .before .before .before .args in
-    Buckets (a .image .now) (a .o) (2 * a .c) (l .k + 1) (l .clean && c .before .before .clean-bucket .result) (l .used + c .used-bit .result)
+    → let l = in-loop c .before in
+    let a = l .before .before .args in
+    Buckets (a .image .now) (a .o) (2 * a .c) (l .loop .k + 1) (l .loop .clean && c .before .before .clean-bucket .result) (l .loop .used + c .used-bit .result)
 next c =
+    let l = in-loop c in
     let bucket = c .before .before .clean-bucket in
-    buckets-next (c .before .before .before .before .loop .inv .buckets) (c .before .before .before .loop-test .taken) (bucket .result)
-    (c .used-bit .result) (bucket .ensures)
+    buckets-next (l .before .loop .inv .buckets) (l .loop-test .taken) (bucket .result) (c .used-bit .result) (bucket .ensures)
     (c .used-bit .ensures ∙ ap (bit 1) (c .before .word .ensures))
 
 add-used : tie.Need-add-used Inv-loop μ-loop
