@@ -1,5 +1,5 @@
--- What each verdict says (`verdict-says` in proofs/Says): the questions before it hold, and it fails, as the ids and the
--- places in the round show.
+-- What each verdict says (`verdict-says` in proofs/Says): the questions before it hold, and it fails, as the ids and
+-- the places in the round show.
 use Prim.Native.Nat.{ℕ}
 use mathlib.Core.Path.{_≡_}
 use mathlib.Core.List.{List, [], _++_}
