@@ -67,7 +67,7 @@ module _ (lists : Lists) (i : ℕ) where
       by-case true e false f q = absurd (false-not-true (sym q))
       by-case false e u f q = absurd (false-not-true (sym q))
 
-  on-back : listed ≡ 1 → ¬ In i (lists .retired) → offSheet (lists .references) (lists .walls) (lists .retired) i ≡ false
+  pub on-back : listed ≡ 1 → ¬ In i (lists .retired) → offSheet (lists .references) (lists .walls) (lists .retired) i ≡ false
   unfolding offSheet
   on-back h n =
       let b = none-counted i (lists .retired) n in
@@ -98,7 +98,7 @@ module _ (sheet round : List ℕ) where
 
 -- ---- 4, 5, 6
 module _ (new round : List ℕ) where
-  empty-so : (xs : List ℕ) → length xs ≡ 0 → xs ≡ []
+  pub empty-so : (xs : List ℕ) → length xs ≡ 0 → xs ≡ []
   empty-so [] h = refl
   empty-so (x ∷ xs) h = absurd (omega arith)
 

@@ -52,7 +52,7 @@ module _ (old new round accepted : List ℕ) where
   abbrev by-alike : Verdict
   by-alike = cond (someKeptIn old new) by-names NothingAlike
 
-  untaken : firstTakenIn old new round ≡ taken.Nothing → NotTaken old new round
+  pub untaken : firstTakenIn old new round ≡ taken.Nothing → NotTaken old new round
   untaken h i j name m e d =
       let b = below old j name e in
       asked.none-taken (nameGiven old) (nameGiven new) round (upperHint old 0) 0 h j (omega arith) (omega (arith, b)) i name m e d

@@ -17,3 +17,5 @@ pub mod Rows
 pub mod DateRows
 pub mod RefusedRows
 pub mod Distinct
+pub mod Fails
+pub mod Says

@@ -53,7 +53,7 @@ unfolding hasZero
 each = (record { free = refl; id-word = lit< tt }, (record { free = refl; id-word = lit< tt }, tt))
 
 fits : (mode : Mode) → imageSize mode puts ≤ 4294967295
-unfolding entriesSize backSize
+unfolding entriesSize backSize hasZero filter same cat le32 word ofId countAt countBytes ids idBytes sectionBytes sheetBytes sectionAt sections readSheet readLists occurs passing firstPlace firstShared offSheet ofRound
 fits Twoway = lit≤ tt
 fits Oneway = lit≤ tt
 

@@ -2,3 +2,4 @@
 pub mod Asked
 pub mod Theorem
 pub mod Held
+pub mod Fails

@@ -30,10 +30,14 @@ pub record OnSheet (sheet round : List ℕ) : Type 0 where
   pub once : (i : ℕ) → In i round → count i (lists .references ++ lists .walls ++ lists .retired) ≡ 1
   pub in-use : (i : ℕ) → In i round → ¬ In i (lists .retired)
 
--- 4, 5, 6: each id of the round has a name that is not empty, and no other id of the round has it
+-- 5: each id of the round has a name that is not empty
+abbrev pub EachNamed : List ℕ → List ℕ → Type 0
+EachNamed new round = (i : ℕ) → In i round → (name : List ℕ) × (nameGiven new i ≡ some name) × ¬ (name ≡ [])
+
+-- 4, 5, 6: the round has an id, each has a name, and no other id of the round has it
 pub record RoundNamed (new round : List ℕ) : Type 0 where
   pub some-id : ¬ (round ≡ [])
-  pub named : (i : ℕ) → In i round → (name : List ℕ) × (nameGiven new i ≡ some name) × ¬ (name ≡ [])
+  pub named : EachNamed new round
   pub one-name : (i k : ℕ) → In i round → In k round → nameGiven new i ≡ nameGiven new k → i ≡ k
 
 -- 8: both name some id alike

@@ -1,7 +1,8 @@
 -- `preflight::names::first_renamed` meets its contract. The loop's invariant: what is left of the round decides. Assumes nothing.
-use Prim.Native.Nat.{_-_}
+use Prim.Native.Nat.{ℕ, _-_}
 use native.Mathlib.Omega.{arith}
 use mathlib.Core.Path.{_≡_, refl, sym, _∙_}
+use mathlib.Core.Bool.{Bool}
 use lib.ListN.{length, drop}
 use borrow.Author.Needs.{needs}
 use Rattle.reader.specs.Naming.{nameGiven}
@@ -25,11 +26,14 @@ turn c = c .before .before .before
 abbrev start : tie.At-loop Inv-loop μ-loop → tie.Start Inv-loop μ-loop
 start c = c .before .before .before .before .before
 
+abbrev gone : tie.Start Inv-loop μ-loop → ℕ → Bool
+gone s = let a = s .args in renamed (nameGiven (a .old .now)) (nameGiven (a .new .now)) (a .accepted .now)
+
 returns : tie.Need-returns Inv-loop μ-loop
 returns c =
     let t = turn (c .before) in
     let a = start t .args in
-    sym (place-here (renamed (nameGiven (a .old .now)) (nameGiven (a .new .now)) (a .accepted .now)) (a .round .now) (t .loop .i) (c .before .before .before .loop-test .taken)
+    sym (place-here (gone (start t)) (a .round .now) (t .loop .i) (c .before .before .before .loop-test .taken)
     (sym (c .before .renamed .ensures) ∙ c .if1 .taken))
     ∙ t .loop .inv
 
@@ -37,7 +41,7 @@ loop-again : tie.Need-loop-again Inv-loop μ-loop
 loop-again c =
     let t = turn (c .before) in
     let a = start t .args in
-    place-on (renamed (nameGiven (a .old .now)) (nameGiven (a .new .now)) (a .accepted .now)) (a .round .now) (t .loop .i) (c .before .before .before .loop-test .taken)
+    place-on (gone (start t)) (a .round .now) (t .loop .i) (c .before .before .before .loop-test .taken)
     (sym (c .before .renamed .ensures) ∙ c .if1 .left)
     ∙ t .loop .inv
 
@@ -45,7 +49,7 @@ returns-2 : tie.Need-returns-2 Inv-loop μ-loop
 returns-2 c =
     let t = c .before in
     let a = start t .args in
-    sym (place-end (renamed (nameGiven (a .old .now)) (nameGiven (a .new .now)) (a .accepted .now)) (a .round .now) (t .loop .i) (c .loop-test .left)) ∙ t .loop .inv
+    sym (place-end (gone (start t)) (a .round .now) (t .loop .i) (c .loop-test .left)) ∙ t .loop .inv
 
 pub first-renamed-spec : {M : Type 1} → statement M
 first-renamed-spec =
