@@ -11,6 +11,7 @@ use Rattle.reader.specs.Cases.{reads}
 use Rattle.batch.specs.RoundNames.{names, invalidEnds, different}
 use Rattle.batch.specs.declared.Rounded.{Rounded}
 use Rattle.batch.specs.declared.Rounded.the-variants.{Buckets, Refused}
+use Rattle.jhash.specs.Refusals as refused
 
 -- "The answers are those of single lookups in the same order": an answer in its place, four words. 1, the id, the
 -- buckets read and the offset; or 0 and the buckets read, with 0 for id and offset
@@ -33,8 +34,8 @@ roundBuckets image xs = bucketsRead image (different xs)
 -- "Over 512 names, or ends that fall or pass the bytes, give 14"; "then an answer list shorter than the names gives 15"
 unfoldable pub roundOutcome : List ℕ → List ℕ → List ℕ → ℕ → Outcome ℕ
 roundOutcome image bytes ends places =
-    cond (ltb 512 (length ends) || invalidEnds (length bytes) 0 ends) (refusal 14)
-    (cond (ltb places (length ends)) (refusal 15) (value (roundBuckets image (names bytes ends))))
+    cond (ltb 512 (length ends) || invalidEnds (length bytes) 0 ends) (refusal refused.roundUnfit)
+    (cond (ltb places (length ends)) (refusal refused.answersTooFew) (value (roundBuckets image (names bytes ends))))
 
 -- the answer list afterwards: "answer places past the last name keep their content"; all as it was where the call is
 -- refused

@@ -10,6 +10,8 @@ use answering::find_all;
 use answering::sum_buckets;
 use deduplicate::deduplicate;
 use deduplicate::hash_names;
+use jhash::refusals::ANSWERS_TOO_FEW;
+use jhash::refusals::ROUND_UNFIT;
 use packed::invalid_ends;
 
 mod deduplicate; // deduplicate.rt: equal names, and the unique ones
@@ -63,13 +65,13 @@ pub fn round(image: &[u8], bytes: &[u8], ends: &[u64], answers: &mut [u32]) -> R
 {
     let n = ends.len();
     if MOST_NAMES < n {
-        return Rounded::Refused(14);
+        return Rounded::Refused(ROUND_UNFIT);
     }
     if invalid_ends(ends, bytes.len()) {
-        return Rounded::Refused(14);
+        return Rounded::Refused(ROUND_UNFIT);
     }
     if answers.len() / 4 < n {
-        return Rounded::Refused(15);
+        return Rounded::Refused(ANSWERS_TOO_FEW);
     }
     Rounded::Buckets(answer_all(image, bytes, ends, &mut answers[..4 * n]))
 }

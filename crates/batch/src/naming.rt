@@ -7,6 +7,8 @@ ghost use Rattle.batch.specs.NameRound.{placeWords, nameWords, nameRefus
 ghost use Rattle.batch.specs.steps.Answers.{putWords, PutPlacePre};
 use super::answering::put_words;
 use crate::MOST_NAMES;
+use jhash::refusals::ANSWERS_TOO_FEW;
+use jhash::refusals::ROUND_UNFIT;
 use reader::Named;
 
 // Stores the place of a name, or nothing, in four words, where the name's length is below 2^32.
@@ -48,10 +50,10 @@ pub fn name_round(image: &[u8], ids: &[u32], answers: &mut [u32]) -> u32
 {
     let n = ids.len();
     if MOST_NAMES < n {
-        return 14;
+        return ROUND_UNFIT;
     }
     if answers.len() / 4 < n {
-        return 15;
+        return ANSWERS_TOO_FEW;
     }
     name_all(image, ids, &mut answers[..4 * n]);
     0

@@ -18,6 +18,7 @@ use Rattle.lists.specs.Demand3.{answersOf, afterList, acceptedPuts, imageOf}
 use Rattle.build.specs.declared.Made.{Made}
 use Rattle.build.specs.declared.Built.{Built}
 use Rattle.build.specs.declared.Built.the-variants.{Image, Refused}
+use Rattle.jhash.specs.Refusals as refused
 
 -- the puts in order: each name with the id at its place
 unfoldable pub callsOf : List (List ℕ) → List ℕ → List Call
@@ -33,9 +34,9 @@ listed bytes ends ids = callsOf (names bytes ends) ids
 -- buffer under 2,072 bytes 1. 0: none
 unfoldable pub buildRefusal : List ℕ → List ℕ → ℕ → ℕ → ℕ → ℕ
 buildRefusal bytes ends ids places room =
-    cond (invalidEnds (length bytes) 0 ends) 14
-    (cond (ltb ids (length ends) || ltb places (length ends)) 15
-    (cond (ltb room headSize) 1 0))
+    cond (invalidEnds (length bytes) 0 ends) refused.roundUnfit
+    (cond (ltb ids (length ends) || ltb places (length ends)) refused.answersTooFew
+    (cond (ltb room headSize) refused.tooShort 0))
 
 -- the size of the image that one close gives after the list, and the number of accepted puts
 unfoldable pub madeOf : Mode → Repeats → List ℕ → List Call → Made

@@ -13,6 +13,9 @@ use image::HEAD_SIZE;
 use image::HEAD_SIZE_64;
 use image::Mode;
 use image::scratch::clear_words;
+use jhash::refusals::ANSWERS_TOO_FEW;
+use jhash::refusals::ROUND_UNFIT;
+use jhash::refusals::TOO_SHORT;
 use packed::invalid_ends;
 use singly::index_words;
 use singly::put_list;
@@ -242,16 +245,16 @@ pub fn build(
 {
     let n = ends.len();
     if invalid_ends(ends, bytes.len()) {
-        return Built::Refused(14);
+        return Built::Refused(ROUND_UNFIT);
     }
     if ids.len() < n {
-        return Built::Refused(15);
+        return Built::Refused(ANSWERS_TOO_FEW);
     }
     if refusals.len() < n {
-        return Built::Refused(15);
+        return Built::Refused(ANSWERS_TOO_FEW);
     }
     if buf.len() < HEAD_SIZE {
-        return Built::Refused(1);
+        return Built::Refused(TOO_SHORT);
     }
     build_list(
         mode,

@@ -10,6 +10,7 @@ use Rattle.build.specs.declared.Made.{Made}
 use Rattle.build.specs.Build.{building, BufferBuilt, answersAfter}
 use Rattle.build_c.specs.declared.BuildAnswer.{BuildAnswer}
 use Rattle.writer.specs.Numbers.{known, modeOf, repeatsOf}
+use Rattle.jhash.specs.Refusals as refused
 
 -- zeros where refused
 abbrev pub builtAnswer : Outcome Made → BuildAnswer
@@ -19,7 +20,7 @@ builtAnswer (refusal k) = record { refusal = k; size = 0; accepted = 0 }
 unfoldable pub buildAnswer : ℕ → ℕ → List ℕ → List ℕ → List ℕ → List ℕ → ℕ → BuildAnswer
 buildAnswer mode repeats buffer bytes ends ids places =
     cond (known mode repeats) (builtAnswer (building (modeOf mode) (repeatsOf repeats) buffer bytes ends ids places))
-    (builtAnswer (refusal 2))
+    (builtAnswer (refusal refused.unfit))
 
 -- the buffer afterwards
 pub record BufferLeft (mode repeats : ℕ) (buffer bytes ends ids : List ℕ) (places : ℕ) (bufferThen : List ℕ) : Type 0

@@ -1,6 +1,7 @@
 // A whole list in one call, for C. It is compiled by itself, so that put and close have one caller each in cqdb_c and
 // are inlined there.
 use build::Built;
+use jhash::refusals::UNFIT;
 use writer::numbers::known;
 use writer::numbers::mode_of;
 use writer::numbers::repeats_of;
@@ -47,7 +48,7 @@ pub extern "C" fn cqdb_build_parts(
 {
     if !known(mode, repeats) {
         return BuildAnswer {
-            refusal: 2,
+            refusal: UNFIT,
             size: 0,
             accepted: 0,
         };

@@ -9,6 +9,7 @@ use Rattle.jhash.specs.Outcome.{Outcome, value, refusal}
 use Rattle.image.specs.Bytes.{word}
 use Rattle.image.specs.Image.{headSize}
 use Rattle.bundle.specs.FileWalk.{counting}
+use Rattle.jhash.specs.Refusals as refused
 
 -- does a walk of the whole file come to its end?
 abbrev pub isValue : {A : Type 0} → Outcome A → Bool
@@ -27,8 +28,8 @@ unfit image = ltb (length image) headSize || not (eqb (word image 4) (length ima
 -- n bytes of the buffer. 0: no refusal
 unfoldable pub appendRefusal : List ℕ → ℕ → List ℕ → ℕ
 appendRefusal buf n image =
-    cond (ltb (length buf) n || not (wholeFile (take n buf)) || unfit image) 10
-    (cond (ltb (length buf) (n + length image)) 3 0)
+    cond (ltb (length buf) n || not (wholeFile (take n buf)) || unfit image) refused.brokenBundle
+    (cond (ltb (length buf) (n + length image)) refused.noRoom 0)
 
 -- "gives the joined length"
 unfoldable pub appending : List ℕ → ℕ → List ℕ → Outcome ℕ

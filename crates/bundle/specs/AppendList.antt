@@ -5,6 +5,7 @@ use lib.ListN.{take}
 use Rattle.jhash.specs.Outcome.{Outcome, value, refusal}
 use Rattle.image.specs.Bytes.{cat}
 use Rattle.bundle.specs.Append.{appending, afterAppend}
+use Rattle.jhash.specs.Refusals as refused
 
 -- "The file for an append is the buffer's first bytes, their number given by the caller"
 pub record File : Type 0 where
@@ -51,6 +52,6 @@ backToBack xs = cat (λ (x : List ℕ). x) xs
 
 -- the image at a position of a list, counted from 0; 11 behind the last
 unfoldable pub nthImage : List (List ℕ) → ℕ → Outcome (List ℕ)
-nthImage [] k = refusal 11
+nthImage [] k = refusal refused.noSuchImage
 nthImage (x ∷ xs) zero = value x
 nthImage (x ∷ xs) (suc k) = nthImage xs k

@@ -7,6 +7,8 @@ use super::Counted;
 use super::walking::count;
 use image::HEAD_SIZE;
 use image::store::store_bytes;
+use jhash::refusals::BROKEN_BUNDLE;
+use jhash::refusals::NO_ROOM;
 use jhash::word::word;
 
 // Does a walk of the whole file come to its end?
@@ -35,16 +37,16 @@ fn append_refusal(buf: &[u8], file_len: usize, image: &[u8]) -> u32
     ensures { λ r. ⌜ r ≡ appendRefusal (now (buf .entry)) «file_len» (now (image .entry)) ⌝ }
 {
     if buf.len() < file_len {
-        return 10;
+        return BROKEN_BUNDLE;
     }
     if !whole(&buf[..file_len]) {
-        return 10;
+        return BROKEN_BUNDLE;
     }
     if unfit(image) {
-        return 10;
+        return BROKEN_BUNDLE;
     }
     if buf.len() - file_len < image.len() {
-        return 3;
+        return NO_ROOM;
     }
     0
 }

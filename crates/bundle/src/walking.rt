@@ -11,6 +11,8 @@ use super::Counted;
 use super::OpenedAt;
 use super::PlaceAnswer;
 use image::HEAD_SIZE;
+use jhash::refusals::BROKEN_BUNDLE;
+use jhash::refusals::NO_SUCH_IMAGE;
 use jhash::word::word;
 use reader::Opened;
 
@@ -41,7 +43,7 @@ pub fn place(file: &[u8], position: usize) -> PlaceAnswer
     while at < file.len() {
         let size = size_at(file, at);
         if size == 0 {
-            return PlaceAnswer::Refused(10);
+            return PlaceAnswer::Refused(BROKEN_BUNDLE);
         }
         if left == 0 {
             return PlaceAnswer::Image { start: at, size };
@@ -49,7 +51,7 @@ pub fn place(file: &[u8], position: usize) -> PlaceAnswer
         left -= 1;
         at += size;
     }
-    PlaceAnswer::Refused(11)
+    PlaceAnswer::Refused(NO_SUCH_IMAGE)
 }
 
 // The part of the lent file that is the image at a position, exactly the size word's bytes; empty where the walk is
@@ -86,7 +88,7 @@ pub fn count(file: &[u8]) -> Counted
     while at < file.len() {
         let size = size_at(file, at);
         if size == 0 {
-            return Counted::Refused(10);
+            return Counted::Refused(BROKEN_BUNDLE);
         }
         images += 1;
         at += size;

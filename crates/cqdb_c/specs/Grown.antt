@@ -6,9 +6,10 @@ use Rattle.writer.specs.Grown.{grownRefusal, grownWriter}
 use Rattle.writer.specs.declared.c_record.Record.{Record}
 use Rattle.writer.specs.Numbers.{known}
 use Rattle.writer.specs.CRecord.{writerOf, recordOf}
+use Rattle.jhash.specs.Refusals as refused
 
 unfoldable pub grownNumber : Record → ℕ → ℕ
-grownNumber r n = cond (known (r .mode) (r .repeats)) (grownRefusal (writerOf r) n) 2
+grownNumber r n = cond (known (r .mode) (r .repeats)) (grownRefusal (writerOf r) n) refused.unfit
 
 unfoldable pub recordGrown : Record → ℕ → Record
 recordGrown r n = cond (known (r .mode) (r .repeats)) (recordOf (grownWriter (writerOf r) n)) r

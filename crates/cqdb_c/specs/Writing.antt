@@ -13,6 +13,7 @@ use Rattle.writer.specs.Close.{closing, afterClose}
 use Rattle.writer.specs.declared.c_record.Record.{Record}
 use Rattle.writer.specs.Numbers.{known, modeOf, repeatsOf}
 use Rattle.writer.specs.CRecord.{recordOf, CState, knownIn, stateIn, cStateOf}
+use Rattle.jhash.specs.Refusals as refused
 
 -- C's writer, lent in place: the record's numbers (mode, repeats, entries, back size) and sizes (length, end), and
 -- the table counts
@@ -33,7 +34,8 @@ sizesOf r = r .length ∷ r .end ∷ []
 
 -- the rule of begin for a buffer of n bytes: a fresh record, or a refusal
 unfoldable pub beginningOf : ℕ → ℕ → ℕ → Outcome CQDBWriter
-beginningOf mode repeats n = cond (known mode repeats) (beginning (modeOf mode) (repeatsOf repeats) n) (refusal 2)
+beginningOf mode repeats n =
+    cond (known mode repeats) (beginning (modeOf mode) (repeatsOf repeats) n) (refusal refused.unfit)
 
 abbrev pub numberIn : Outcome CQDBWriter → ℕ
 numberIn (value w) = 0
@@ -49,14 +51,14 @@ leftByBegin mode repeats n l = lentIn (beginningOf mode repeats n) l
 
 -- the rule of put: the refusal's number, 0 when accepted; and what put leaves
 unfoldable pub putNumber : CState → Entry → ℕ
-putNumber h e = cond (knownIn h) (putRefusal (stateIn h) e) 2
+putNumber h e = cond (knownIn h) (putRefusal (stateIn h) e) refused.unfit
 
 unfoldable pub leftByPut : CState → Entry → CState
 leftByPut h e = cond (knownIn h) (cStateOf (afterPut (stateIn h) e)) h
 
 -- the rule of close: the image's size or the refusal's number, each 0 where it is the other; and what close leaves
 unfoldable pub closingOf : CState → Outcome ℕ
-closingOf h = cond (knownIn h) (closing (stateIn h)) (refusal 2)
+closingOf h = cond (knownIn h) (closing (stateIn h)) (refusal refused.unfit)
 
 abbrev pub refusalIn : Outcome ℕ → ℕ
 refusalIn (value n) = 0

@@ -1,5 +1,6 @@
 // The name hash for C.
 use jhash::Hashed;
+use jhash::refusals::NAME_TOO_LONG;
 ghost use mathlib.Core.Path.{_≡_};
 ghost use Rattle.cqdb_c.specs.Hash.{hashAnswer};
 
@@ -22,7 +23,7 @@ pub extern "C" fn cqdb_hash(name: &[u8], start: u32) -> HashAnswer
             hash: x,
         },
         Hashed::Refused => HashAnswer {
-            refusal: 9,
+            refusal: NAME_TOO_LONG,
             hash: 0,
         },
     }

@@ -1,5 +1,6 @@
 // Writing, for C. The record is lent in place, as four numbers and two sizes; the 256 table counts and the buffer are
 // lent, too. A record whose mode or choice of repeats is neither 0 nor 1 is none of 01's and fits no buffer.
+use jhash::refusals::UNFIT;
 use writer::Begun;
 use writer::Closed;
 use writer::c_record::record_in;
@@ -43,7 +44,7 @@ pub extern "C" fn cqdb_begin_parts(
         ⌝ }
 {
     if !known(mode, repeats) {
-        return 2;
+        return UNFIT;
     }
     let begun = writer::begin(mode_of(mode), repeats_of(repeats), &mut *counts, buf);
     match begun {
@@ -83,7 +84,7 @@ pub extern "C" fn cqdb_put_parts(
 {
     let w = record_in(&*numbers, &*sizes);
     if !known(w.mode, w.repeats) {
-        return 2;
+        return UNFIT;
     }
     let done = writer::put(writer_of(w), &mut *counts, &mut *buf, name, id);
     let after = done.writer;
@@ -140,7 +141,7 @@ pub extern "C" fn cqdb_close_parts(
     let w = record_in(numbers, sizes);
     if !known(w.mode, w.repeats) {
         return CloseAnswer {
-            refusal: 2,
+            refusal: UNFIT,
             size: 0,
         };
     }
@@ -164,7 +165,7 @@ pub extern "C" fn cqdb_grown_parts(numbers: &[u32; 4], sizes: &mut [u64; 2], lon
 {
     let w = record_in(numbers, &*sizes);
     if !known(w.mode, w.repeats) {
-        return 2;
+        return UNFIT;
     }
     let done = writer::grown(writer_of(w), longer);
     let after = done.writer;

@@ -11,6 +11,7 @@ use Rattle.image.specs.Image.{Entry, headSize, placed, bucketOf}
 use Rattle.writer.specs.State.{State}
 use Rattle.writer.specs.Put.{putRefusal, appended}
 use Rattle.writer.specs.Close.{recorded, closeRefusal}
+use Rattle.jhash.specs.Refusals as refused
 
 -- the lent words are slots of two words each: a hash, then the offset of an entry; offset 0 marks an empty slot. An odd
 -- last word has no meaning
@@ -53,7 +54,7 @@ pub record Right (s : State) (words : List ℕ) : Type 0 where
 -- a put by the index: put's refusal; where put would accept, 24 when every slot is taken
 unfoldable pub indexedRefusal : State → List ℕ → Entry → ℕ
 indexedRefusal s words e =
-    cond (eqb (putRefusal s e) 0 && leb (slotCount words) (s .writer .entries)) 24 (putRefusal s e)
+    cond (eqb (putRefusal s e) 0 && leb (slotCount words) (s .writer .entries)) refused.indexFull (putRefusal s e)
 
 unfoldable pub afterIndexed : State → List ℕ → Entry → State
 afterIndexed s words e = cond (eqb (indexedRefusal s words e) 0) (appended s e) s
@@ -61,4 +62,4 @@ afterIndexed s words e = cond (eqb (indexedRefusal s words e) 0) (appended s e) 
 -- making an index: close's refusal; where close would accept, 24 when there are more entries than slots
 unfoldable pub indexRefusal : State → List ℕ → ℕ
 indexRefusal s words =
-    cond (eqb (closeRefusal s) 0 && ltb (slotCount words) (s .writer .entries)) 24 (closeRefusal s)
+    cond (eqb (closeRefusal s) 0 && ltb (slotCount words) (s .writer .entries)) refused.indexFull (closeRefusal s)

@@ -14,6 +14,7 @@ use Rattle.writer.specs.State.{State, refusesRepeats, finishedSize, tooLarge}
 use Rattle.writer.specs.Put.{writerAfterPut}
 use Rattle.index.specs.Index.{slotCount}
 use Rattle.index.specs.Probe.{duplicateAt, probeSlots}
+use Rattle.jhash.specs.Refusals as refused
 
 -- has the record this buffer's length, and an end from 2,072 to that length? Counts are not compared
 abbrev pub inBuffer : CQDBWriter → List ℕ → Bool
@@ -23,14 +24,16 @@ inBuffer w buf = eqb (w .length) (length buf) && leb headSize (w .end) && leb (w
 -- is too long to have a hash
 unfoldable pub earlyRefusal : CQDBWriter → List ℕ → List ℕ → ℕ
 earlyRefusal w buf name =
-    cond (not (inBuffer w buf)) 2 (cond (hasZero name) 13 (cond (ltb 4294967294 (length name)) 3 0))
+    cond (not (inBuffer w buf)) refused.unfit
+    (cond (hasZero name) refused.zeroByte
+    (cond (ltb 4294967294 (length name)) refused.noRoom 0))
 
 -- after it, of a name of n bytes with hash h: 3 when the image would be too large, 2 when the count of the name's table
 -- has no room for one more
 unfoldable pub lateRefusal : CQDBWriter → List ℕ → ℕ → ℕ → ℕ → ℕ
 lateRefusal w counts n id h =
-    cond (tooLarge (w .length) (finishedSize (writerAfterPut w n id))) 3
-    (cond (ltb 4294967294 (getD counts (tableOf h) 0)) 2 0)
+    cond (tooLarge (w .length) (finishedSize (writerAfterPut w n id))) refused.noRoom
+    (cond (ltb 4294967294 (getD counts (tableOf h) 0)) refused.unfit 0)
 
 -- of an entry
 abbrev pub earlyOf : State → Entry → ℕ
@@ -49,7 +52,8 @@ probedFor s words e =
 -- empty slot, and 0 otherwise
 abbrev pub refusalAfter : State → List ℕ → Entry → ℕ → ℕ
 refusalAfter s words e k =
-    cond (ltb (slotCount words) k) 16 (cond (eqb (lateOf s e) 0) (cond (eqb k (slotCount words)) 24 0) (lateOf s e))
+    cond (ltb (slotCount words) k) refused.repeated
+    (cond (eqb (lateOf s e) 0) (cond (eqb k (slotCount words)) refused.indexFull 0) (lateOf s e))
 
 -- the early refusals, then those by the search
 unfoldable pub refusalBySlots : State → List ℕ → Entry → ℕ

@@ -10,6 +10,9 @@ ghost use Rattle.index.specs.Refusals.{inBuffer, earlyRefusal, lateRefus
 ghost use Rattle.index.specs.steps.Checks.{newRefusal, FactsOf, AppendPre};
 use super::NameFacts;
 use image::HEAD_SIZE_64;
+use jhash::refusals::NO_ROOM;
+use jhash::refusals::UNFIT;
+use jhash::refusals::ZERO_BYTE;
 use writer::CQDBWriter;
 use writer::record::size_with;
 use writer::record::too_large;
@@ -49,13 +52,13 @@ pub(super) fn early_refusal(w: CQDBWriter, buf: &[u8], name: &[u8], clean: bool)
     ensures { λ r. ⌜ r ≡ earlyRefusal w (now (buf .entry)) (now (name .entry)) ⌝ }
 {
     if !in_buffer(w, buf) {
-        return 2;
+        return UNFIT;
     }
     if has_zero(clean, name) {
-        return 13;
+        return ZERO_BYTE;
     }
     if 4294967294 < name.len() {
-        return 3;
+        return NO_ROOM;
     }
     0
 }
@@ -68,11 +71,11 @@ pub(super) fn late_refusal(w: CQDBWriter, counts: &[u32; 256], n: usize, id: u32
     ensures { λ r. ⌜ r ≡ lateRefusal w (now (counts .entry)) n id h ⌝ }
 {
     if too_large(w.length, size_with(w, n, id)) {
-        return 3;
+        return NO_ROOM;
     }
     let t = (h % 256) as usize;
     if counts[t] > 4294967294 {
-        return 2;
+        return UNFIT;
     }
     0
 }

@@ -15,6 +15,8 @@ use image::HEAD_SIZE;
 use image::entries::name_at;
 use image::entries::whole_length;
 use image::scratch::clear_words;
+use jhash::refusals::INDEX_FULL;
+use jhash::refusals::REPEATED;
 use slots::first_empty;
 use slots::probe;
 use slots::store_slot;
@@ -70,14 +72,14 @@ fn decide(
     let repeats = w.repeats;
     let k = probe(repeats, &buf[..end], slots, h, name);
     if m < k {
-        return refused(16);
+        return refused(REPEATED);
     }
     let late = late_refusal(w, counts, name.len(), id, h);
     if late != 0 {
         return refused(late);
     }
     if k == m {
-        return refused(24);
+        return refused(INDEX_FULL);
     }
     Decision {
         refusal: 0,
@@ -196,7 +198,7 @@ pub fn index(w: CQDBWriter, counts: &[u32; 256], buf: &[u8], slots: &mut [u32]) 
     }
     let m = slots.len() / 2;
     if m < w.entries as usize {
-        return 24;
+        return INDEX_FULL;
     }
     clear_words(&mut *slots, 2 * m);
     fill(buf, w.end as usize, w.entries, &mut *slots);

@@ -13,6 +13,7 @@ use Rattle.writer.specs.Put.{appended}
 use Rattle.writer.specs.CRecord.{CState, knownIn, stateIn, cStateOf}
 use Rattle.index.specs.Refusals.{refusalBySlots}
 use Rattle.index.specs.Index.{slotCount, slotInserted, Right, indexedRefusal, afterIndexed, indexRefusal}
+use Rattle.jhash.specs.Refusals as refused
 
 -- two slots a name, two words a slot; where that exceeds 64 bits, the largest number of 64 bits
 abbrev pub indexWords : ℕ → ℕ
@@ -25,11 +26,11 @@ pub record RightHeld (h : CState) (words : List ℕ) : Type 0 where
 
 -- the put by whatever slots are lent: the refusal's number, 0 when accepted
 unfoldable pub putBySlotsNumber : CState → List ℕ → Entry → ℕ
-putBySlotsNumber h words e = cond (knownIn h) (refusalBySlots (stateIn h) words e) 2
+putBySlotsNumber h words e = cond (knownIn h) (refusalBySlots (stateIn h) words e) refused.unfit
 
 -- the rule of the put by an index: the refusal's number, and what it leaves
 unfoldable pub putIndexedNumber : CState → List ℕ → Entry → ℕ
-putIndexedNumber h words e = cond (knownIn h) (indexedRefusal (stateIn h) words e) 2
+putIndexedNumber h words e = cond (knownIn h) (indexedRefusal (stateIn h) words e) refused.unfit
 
 unfoldable pub leftByPutIndexed : CState → List ℕ → Entry → CState
 leftByPutIndexed h words e = cond (knownIn h) (cStateOf (afterIndexed (stateIn h) words e)) h
@@ -51,7 +52,7 @@ pub record PutIndexedHeld (h : CState) (words : List ℕ) (e : Entry) (refusal :
 
 -- making an index: the rule's number; a refusal changes nothing; 0 gives a right index, and keeps an odd last word
 unfoldable pub indexNumber : CState → List ℕ → ℕ
-indexNumber h words = cond (knownIn h) (indexRefusal (stateIn h) words) 2
+indexNumber h words = cond (knownIn h) (indexRefusal (stateIn h) words) refused.unfit
 
 pub record IndexedHeld (h : CState) (words : List ℕ) (refusal : ℕ) (words′ : List ℕ) : Type 0 where
   pub answer : refusal ≡ indexNumber h words

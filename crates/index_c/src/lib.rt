@@ -7,6 +7,7 @@ ghost use lib.ListN.{length};
 ghost use Rattle.writer.specs.Put.{entryOf};
 ghost use Rattle.writer.specs.CRecord.{lentState};
 ghost use Rattle.index_c.specs.IndexC.{indexWords, PutIndexedHeld, IndexedHeld};
+use jhash::refusals::UNFIT;
 use writer::c_record::record_in;
 use writer::c_record::writer_of;
 use writer::numbers::known;
@@ -39,7 +40,7 @@ pub extern "C" fn cqdb_index_parts(
 {
     let w = record_in(numbers, sizes);
     if !known(w.mode, w.repeats) {
-        return 2;
+        return UNFIT;
     }
     index::index(writer_of(w), counts, buf, &mut *slots)
 }
@@ -68,7 +69,7 @@ pub extern "C" fn cqdb_put_indexed_parts(
 {
     let w = record_in(&*numbers, &*sizes);
     if !known(w.mode, w.repeats) {
-        return 2;
+        return UNFIT;
     }
     let done = index::put_indexed(writer_of(w), &mut *counts, &mut *buf, &mut *slots, name, id);
     let after = done.writer;

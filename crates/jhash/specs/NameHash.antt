@@ -8,6 +8,7 @@ use Rattle.jhash.specs.Outcome.{Outcome, value, refusal}
 use Rattle.jhash.specs.Lookup3.{hashlittle}
 use Rattle.jhash.specs.declared.Hashed.{Hashed}
 use Rattle.jhash.specs.declared.Hashed.the-variants.{Hash, Refused}
+use Rattle.jhash.specs.Refusals as refused
 
 -- The hash of a name with a start value: hashlittle over the name and one zero byte.
 unfoldable pub nameHash : List ℕ → ℕ → ℕ
@@ -22,11 +23,11 @@ hashOf name = nameHash name 0
 -- The number or value of each case of `Hashed`.
 abbrev pub outcome : Hashed → Outcome ℕ
 outcome (Hash h) = value h
-outcome Refused = refusal 9
+outcome Refused = refusal refused.nameTooLong
 
 -- The rule: refusal 9 when the name has 4,294,967,295 bytes or more, otherwise its hash.
 unfoldable pub hashOutcome : List ℕ → ℕ → Outcome ℕ
-hashOutcome name start = cond (ltb (length name) 4294967295) (value (nameHash name start)) (refusal 9)
+hashOutcome name start = cond (ltb (length name) 4294967295) (value (nameHash name start)) (refusal refused.nameTooLong)
 
 -- The hash of a name, 0 where it is too long to have one. Names with different values differ.
 unfoldable pub hashOrZero : List ℕ → ℕ

@@ -11,6 +11,7 @@ ghost use Rattle.jhash.specs.NameHash.{outcome, hashOutcome, hashOrZero}
 use word::word;
 use word::word_near_end;
 
+pub mod refusals; // refusals.rt: the numbers of the refusals
 pub mod word; // word.rt: the little-endian words of a slice
 
 // lookup3's three words a, b, c.

@@ -15,6 +15,7 @@ use Rattle.lookup_laws.specs.Answer.{foundId, nameGiven}
 use Rattle.canonical.specs.Canonical.{canonical, putsIn, modeIn}
 use Rattle.one_to_one.specs.declared.OneToOne.{OneToOne}
 use Rattle.one_to_one.specs.declared.OneToOne.the-variants as answer
+use Rattle.jhash.specs.Refusals as refused
 
 -- is what was found this id, is what was given this name?
 abbrev pub isId : Option ℕ → ℕ → Bool
@@ -56,7 +57,7 @@ firstFailureIn img = firstFailure (kindIn img) headSize (putsIn img)
 
 -- the answer: refused with 17 where 02 (ix) says no; otherwise yes, or the first failure
 unfoldable pub oneToOne : List ℕ → Outcome (Option Failure)
-oneToOne img = cond (canonical img) (value (firstFailureIn img)) (refusal 17)
+oneToOne img = cond (canonical img) (value (firstFailureIn img)) (refusal refused.notCanonical)
 
 -- the number and the values of each case of the answer
 abbrev pub oneToOneOf : OneToOne → Outcome (Option Failure)

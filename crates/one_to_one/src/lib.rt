@@ -14,6 +14,7 @@ use image::entries::name_at;
 use image::equality::same;
 use image::get_u32;
 use image::size_at;
+use jhash::refusals::NOT_CANONICAL;
 use reader::Named;
 use reader::ToId;
 
@@ -81,7 +82,7 @@ pub fn one_to_one(image: &[u8]) -> OneToOne
     ensures { λ r. ⌜ oneToOneOf r ≡ oneToOne (now (image .entry)) ⌝ }
 {
     if !is_canonical(image) {
-        return OneToOne::Refused(17);
+        return OneToOne::Refused(NOT_CANONICAL);
     }
     first_failure(image, entry_count(image))
 }

@@ -11,12 +11,13 @@ use Rattle.reader.specs.IdWalk.{upperHint}
 use Rattle.page.specs.Page.{lines, page}
 use Rattle.page.specs.declared.Printed.{Printed}
 use Rattle.page.specs.declared.Printed.the-variants.{Length, Refused}
+use Rattle.jhash.specs.Refusals as refused
 
 -- ---- n lines from id `first` on, for an output buffer
 
 -- "an output buffer under that length gives 12"
 unfoldable pub printingLines : ℕ → ℕ → Outcome ℕ
-printingLines n room = cond (ltb room (45 * n)) (refusal 12) (value (45 * n))
+printingLines n room = cond (ltb room (45 * n)) (refusal refused.pageTooLong) (value (45 * n))
 
 -- "unwritten"; otherwise the lines, and "bytes past the page keep their content"
 unfoldable pub afterLines : (ℕ → Option (List ℕ)) → ℕ → ℕ → List ℕ → List ℕ

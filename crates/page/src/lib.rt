@@ -7,6 +7,7 @@ ghost use Rattle.reader.specs.Naming.{nameGiven};
 ghost use Rattle.page.specs.Page.{lines};
 ghost use Rattle.page.specs.Call.{pageLength, printing, afterPage, partPrinting, afterPart, printedOf};
 ghost use Rattle.page.specs.steps.Contracts.{PrintLinesPre, FrontPrinted};
+use jhash::refusals::PAGE_TOO_LONG;
 use line::print_line;
 use reader::Iter;
 use reader::id_walk::size_hint;
@@ -49,7 +50,7 @@ fn print_front(out: &mut [u8], image: &[u8], first: u32, count: u32) -> Printed
 {
     let length = 45 * (count as u64);
     if (out.len() as u64) < length {
-        return Printed::Refused(12);
+        return Printed::Refused(PAGE_TOO_LONG);
     }
     print_lines(&mut *out, image, first, count);
     Printed::Length(length)

@@ -13,6 +13,7 @@ use Rattle.preflight.specs.declared.Place.{Place}
 use Rattle.preflight.specs.declared.Place.the-variants as place
 use Rattle.preflight.specs.declared.dates.DatesAnswer.{DatesAnswer}
 use Rattle.preflight.specs.declared.dates.DatesAnswer.the-variants.{Yes, Refused, Outside}
+use Rattle.jhash.specs.Refusals as refused
 
 -- a window of the id that holds both dates
 abbrev pub holdsBoth : Date → Date → ℕ → Window → Bool
@@ -33,10 +34,10 @@ ofOutside place.Nothing = Yes
 -- one, then those of the windows; after these 23 for a window that does not start before its end
 unfoldable pub preflightDates : List Window → List ℕ → Date → Date → DatesAnswer
 preflightDates windows round last date =
-    cond (not (isDate last)) (Refused 22)
-    (cond (not (isDate date)) (Refused 22)
-    (cond (someWindow invalidDates windows) (Refused 22)
-    (cond (someWindow inverted windows) (Refused 23)
+    cond (not (isDate last)) (Refused refused.noSuchDate)
+    (cond (not (isDate date)) (Refused refused.noSuchDate)
+    (cond (someWindow invalidDates windows) (Refused refused.noSuchDate)
+    (cond (someWindow inverted windows) (Refused refused.notBeforeEnd)
     (ofOutside (firstOutside windows last date round)))))
 
 -- windows as words of 32 bits, three to a window, as they lie in memory: the id, the first date, the end date. A date's

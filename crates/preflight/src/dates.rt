@@ -7,6 +7,8 @@ ghost use Prim.Native.Nat.{_+_, _*_, _<_};
 ghost use Rattle.validity.specs.Rule.{someWindow, invalidDates, inverted, holdsDate};
 ghost use Rattle.preflight.specs.Dates.{dateOf, windowAt, windowsIn, holdsBoth, firstOutside, preflightDates};
 use super::Place;
+use jhash::refusals::NO_SUCH_DATE;
+use jhash::refusals::NOT_BEFORE_END;
 use validity::Date;
 use validity::Window;
 use validity::calendar::earlier;
@@ -157,16 +159,16 @@ pub fn preflight_dates(windows: &[u32], round: &[u32], last: Date, date: Date) -
         ⌝ }
 {
     if !is_date(last) {
-        return DatesAnswer::Refused(22);
+        return DatesAnswer::Refused(NO_SUCH_DATE);
     }
     if !is_date(date) {
-        return DatesAnswer::Refused(22);
+        return DatesAnswer::Refused(NO_SUCH_DATE);
     }
     if some_invalid(windows) {
-        return DatesAnswer::Refused(22);
+        return DatesAnswer::Refused(NO_SUCH_DATE);
     }
     if some_inverted(windows) {
-        return DatesAnswer::Refused(23);
+        return DatesAnswer::Refused(NOT_BEFORE_END);
     }
     match first_outside(windows, round, last, date) {
         Place::At(place) => DatesAnswer::Outside { place },

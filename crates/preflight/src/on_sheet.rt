@@ -6,6 +6,8 @@ ghost use Rattle.preflight.specs.OnSheet.{offSheet, firstOff, ofSheet};
 ghost use Rattle.preflight.specs.steps.Contracts.{OneOf, PartTallied};
 use super::Place;
 use super::Verdict;
+use jhash::refusals::LEFT_OVER_BYTES;
+use jhash::refusals::TOO_FEW_BYTES;
 use sheet::ReadAnswer;
 use sheet::Which;
 use sheet::id_at;
@@ -66,8 +68,8 @@ pub(crate) fn of_sheet(file: &[u8], round: &[u32]) -> Verdict
     ensures { λ r. ⌜ r ≡ ofSheet (readLists (now (file .entry))) (now (round .entry)) ⌝ }
 {
     match sheet::read(file) {
-        ReadAnswer::TooFew => Verdict::SheetRefused(19),
-        ReadAnswer::LeftOver => Verdict::SheetRefused(20),
+        ReadAnswer::TooFew => Verdict::SheetRefused(TOO_FEW_BYTES),
+        ReadAnswer::LeftOver => Verdict::SheetRefused(LEFT_OVER_BYTES),
         ReadAnswer::Whole(s) => {
             let references = section(file, Which::References);
             let walls = section(file, Which::Walls);

@@ -8,6 +8,7 @@ use Rattle.jhash.specs.Outcome.{Outcome, value, refusal}
 use Rattle.image.specs.Bytes.{word}
 use Rattle.image.specs.Image.{headSize}
 use Rattle.image.specs.Head.{tableAt, bucketNumber, backOffsetAt, tablePastEnd, backPastEnd}
+use Rattle.jhash.specs.Refusals as refused
 
 -- does one of the m tables from t on, with an offset above 0, reach past the end of the image?
 unfoldable pub somePastEnd : List ℕ → ℕ → ℕ → Bool
@@ -29,9 +30,9 @@ hasLetters image =
 -- sum of halves over all 256 tables, modulo 2^32
 unfoldable pub opening : List ℕ → Outcome ℕ
 opening image =
-    cond (ltb (length image) headSize) (refusal 1)
-    (cond (not (hasLetters image)) (refusal 5)
-    (cond (not (eqb (word image 12) 0x62445371)) (refusal 6)
-    (cond (somePastEnd image 0 256) (refusal 7)
-    (cond (ltb 0 (backOffsetAt image) && backPastEnd image) (refusal 8)
+    cond (ltb (length image) headSize) (refusal refused.tooShort)
+    (cond (not (hasLetters image)) (refusal refused.wrongLetters)
+    (cond (not (eqb (word image 12) 0x62445371)) (refusal refused.wrongByteOrder)
+    (cond (somePastEnd image 0 256) (refusal refused.tableLeaves)
+    (cond (ltb 0 (backOffsetAt image) && backPastEnd image) (refusal refused.backLeaves)
     (value (numFrom image 0 256 % 2 ^ 32))))))

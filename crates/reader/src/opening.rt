@@ -11,6 +11,11 @@ ghost use Rattle.reader.specs.steps.Tables.{SlacksFit, TableAdded, AllTa
 use super::Opened;
 use image::BYTEORDER_CHECK;
 use image::HEAD_SIZE;
+use jhash::refusals::BACK_LEAVES;
+use jhash::refusals::TABLE_LEAVES;
+use jhash::refusals::TOO_SHORT;
+use jhash::refusals::WRONG_BYTE_ORDER;
+use jhash::refusals::WRONG_LETTERS;
 use jhash::word::word;
 
 // Sums over the tables so far: the halves of their bucket numbers, modulo 2^32, and the bitwise or of their slacks.
@@ -128,21 +133,21 @@ pub fn open(image: &[u8]) -> Opened
     ensures { λ r. ⌜ openedOf r ≡ opening (now (image .entry)) ⌝ }
 {
     if image.len() < HEAD_SIZE {
-        return Opened::Refused(1);
+        return Opened::Refused(TOO_SHORT);
     }
     if !has_letters(image) {
-        return Opened::Refused(5);
+        return Opened::Refused(WRONG_LETTERS);
     }
     if word(image, 12) != BYTEORDER_CHECK {
-        return Opened::Refused(6);
+        return Opened::Refused(WRONG_BYTE_ORDER);
     }
     let all = all_tables(image);
     if some_past_end(image, all.slacks) {
-        return Opened::Refused(7);
+        return Opened::Refused(TABLE_LEAVES);
     }
     if 0 < word(image, 20) {
         if back_past_end(image) {
-            return Opened::Refused(8);
+            return Opened::Refused(BACK_LEAVES);
         }
     }
     Opened::Num(all.num)

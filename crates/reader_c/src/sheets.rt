@@ -1,4 +1,7 @@
 // The round sheet, for C.
+use jhash::refusals::LEFT_OVER_BYTES;
+use jhash::refusals::SHEET_TOO_LARGE;
+use jhash::refusals::TOO_FEW_BYTES;
 use sheet::ReadAnswer;
 use sheet::Sheet;
 use sheet::Written;
@@ -56,8 +59,8 @@ pub extern "C" fn cqdb_sheet_read(file: &[u8]) -> SheetAnswer
 {
     match sheet::read(file) {
         ReadAnswer::Whole(s) => parts(s),
-        ReadAnswer::TooFew => no_sheet(19),
-        ReadAnswer::LeftOver => no_sheet(20),
+        ReadAnswer::TooFew => no_sheet(TOO_FEW_BYTES),
+        ReadAnswer::LeftOver => no_sheet(LEFT_OVER_BYTES),
     }
 }
 
@@ -87,7 +90,7 @@ pub extern "C" fn cqdb_sheet_write(
             length: n as u64,
         },
         Written::TooLarge => LengthAnswer {
-            refusal: 21,
+            refusal: SHEET_TOO_LARGE,
             length: 0,
         },
     }

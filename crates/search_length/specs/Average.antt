@@ -11,6 +11,7 @@ use Rattle.search_length.specs.SearchLengths.{totalOf, lengthsFrom}
 use Rattle.search_length.specs.declared.AverageLength.{AverageLength}
 use Rattle.search_length.specs.declared.Averaged.{Averaged}
 use Rattle.search_length.specs.declared.Averaged.the-variants as averaged
+use Rattle.jhash.specs.Refusals as refused
 
 -- the number of entries of an image, and the total of buckets read when the name of each is looked up
 abbrev pub entryCount : List ℕ → ℕ
@@ -21,7 +22,7 @@ total img = totalOf img (putsIn img)
 
 -- "an image that (ix) says no to gives 17, then one without entries gives 18"
 abbrev pub firstRefusal : Bool → ℕ → ℕ
-firstRefusal valid n = cond (not valid) 17 (cond (eqb n 0) 18 0)
+firstRefusal valid n = cond (not valid) refused.notCanonical (cond (eqb n 0) refused.noEntries 0)
 
 unfoldable pub averageRefusal : List ℕ → ℕ
 averageRefusal img = firstRefusal (canonical img) (entryCount img)

@@ -4,6 +4,8 @@ ghost use mathlib.Core.Path.{_≡_};
 ghost use Rattle.search_length.specs.Average.{firstRefusal, averaging, averagedOf, Lengths};
 use canonical::entry_count;
 use canonical::is_canonical;
+use jhash::refusals::NO_ENTRIES;
+use jhash::refusals::NOT_CANONICAL;
 use walks::count_lengths;
 
 mod walks; // walks.rt: the search lengths of the entries
@@ -26,10 +28,10 @@ fn first_refusal(valid: bool, n: u32) -> u32
     ensures { λ r. ⌜ r ≡ firstRefusal valid n ⌝ }
 {
     if !valid {
-        return 17;
+        return NOT_CANONICAL;
     }
     if n == 0 {
-        return 18;
+        return NO_ENTRIES;
     }
     0
 }

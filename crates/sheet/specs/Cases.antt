@@ -9,19 +9,20 @@ use Rattle.sheet.specs.declared.ReadAnswer.{ReadAnswer}
 use Rattle.sheet.specs.declared.ReadAnswer.the-variants.{Whole, TooFew, LeftOver}
 use Rattle.sheet.specs.declared.Written.{Written}
 use Rattle.sheet.specs.declared.Written.the-variants.{Length, TooLarge}
+use Rattle.jhash.specs.Refusals as refused
 
 -- one section
 abbrev pub sectionAnswerOf : SectionAnswer → Outcome SectionPlace
 sectionAnswerOf (At p) = value p
-sectionAnswerOf Short = refusal 19
+sectionAnswerOf Short = refusal refused.tooFewBytes
 
 -- a file
 abbrev pub readOf : ReadAnswer → Outcome Sheet
 readOf (Whole s) = value s
-readOf TooFew = refusal 19
-readOf LeftOver = refusal 20
+readOf TooFew = refusal refused.tooFewBytes
+readOf LeftOver = refusal refused.leftOverBytes
 
 -- a writing
 abbrev pub writtenOf : Written → Outcome ℕ
 writtenOf (Length n) = value n
-writtenOf TooLarge = refusal 21
+writtenOf TooLarge = refusal refused.sheetTooLarge

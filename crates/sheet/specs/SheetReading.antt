@@ -12,6 +12,7 @@ use Rattle.sheet.specs.declared.SectionPlace.{SectionPlace}
 use Rattle.sheet.specs.declared.Sheet.{Sheet}
 use Rattle.sheet.specs.declared.Which.{Which}
 use Rattle.sheet.specs.declared.Which.the-variants.{References, Walls, Retired}
+use Rattle.jhash.specs.Refusals as refused
 
 -- a part as a place: the offset of its first byte, and the number of its ids, four bytes each. Where it ends
 abbrev pub partEnd : SectionPlace → ℕ
@@ -27,8 +28,8 @@ idsIn part = ids (length part / 4) part
 -- the section whose count stands at an offset. "Too few bytes give 19": for the count, then for the ids
 unfoldable pub sectionAt : List ℕ → ℕ → Outcome SectionPlace
 sectionAt file o =
-    cond (ltb (length file) (o + 2)) (refusal 19)
-    (cond (ltb (length file) (o + 2 + 4 * countAt file o)) (refusal 19)
+    cond (ltb (length file) (o + 2)) (refusal refused.tooFewBytes)
+    (cond (ltb (length file) (o + 2 + 4 * countAt file o)) (refusal refused.tooFewBytes)
     (value (record { start = o + 2; count = countAt file o })))
 
 -- what is done with a value; a refusal stays
@@ -46,7 +47,7 @@ sections file =
 
 -- "left-over bytes 20"
 abbrev pub nothingLeft : List ℕ → Sheet → Outcome Sheet
-nothingLeft file s = cond (ltb (partEnd (s .retired)) (length file)) (refusal 20) (value s)
+nothingLeft file s = cond (ltb (partEnd (s .retired)) (length file)) (refusal refused.leftOverBytes) (value s)
 
 unfoldable pub readSheet : List ℕ → Outcome Sheet
 readSheet file = andThen (sections file) (nothingLeft file)

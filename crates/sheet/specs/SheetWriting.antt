@@ -6,6 +6,7 @@ use lib.ListN.{length, drop}
 use lib.Dec.{ltb}
 use Rattle.jhash.specs.Outcome.{Outcome, value, refusal}
 use Rattle.sheet.specs.Format.{Lists, sheetBytes}
+use Rattle.jhash.specs.Refusals as refused
 
 -- the lists that are lent
 abbrev pub sectionLists : List ℕ → List ℕ → List ℕ → Lists
@@ -21,7 +22,9 @@ tooLong l = passes (l .references) || passes (l .walls) || passes (l .retired)
 -- "the writer gives 21 when a list passes 65,535 or the buffer is too short"; otherwise the length. A buffer of
 -- `room` bytes
 unfoldable pub writing : ℕ → Lists → Outcome ℕ
-writing room l = cond (tooLong l || ltb room (length (sheetBytes l))) (refusal 21) (value (length (sheetBytes l)))
+writing room l =
+    cond (tooLong l || ltb room (length (sheetBytes l))) (refusal refused.sheetTooLarge)
+    (value (length (sheetBytes l)))
 
 -- the buffer afterwards: the file in front, every byte past it as it was; all as it was where the writer is refused
 abbrev pub leftByWriter : List ℕ → Lists → Outcome ℕ → List ℕ

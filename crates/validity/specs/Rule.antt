@@ -9,6 +9,7 @@ use Rattle.reader.specs.Naming.{Naming, unnamed, naming, sliceOr}
 use Rattle.validity.specs.Calendar.{isDate, isEnd, earlier}
 use Rattle.validity.specs.declared.Date.{Date}
 use Rattle.validity.specs.declared.Window.{Window}
+use Rattle.jhash.specs.Refusals as refused
 
 -- does the test hold of some window?
 unfoldable pub someWindow : (Window → Bool) → List Window → Bool
@@ -32,9 +33,9 @@ holdsDate id date w = eqb (w .id) id && not (earlier date (w .first)) && earlier
 -- window that doesn't start before its end gives 23"
 unfoldable pub inSeason : Naming → ℕ → Date → List Window → Outcome Naming
 inSeason n id date windows =
-    cond (not (isDate date)) (refusal 22)
-    (cond (someWindow invalidDates windows) (refusal 22)
-    (cond (someWindow inverted windows) (refusal 23)
+    cond (not (isDate date)) (refusal refused.noSuchDate)
+    (cond (someWindow invalidDates windows) (refusal refused.noSuchDate)
+    (cond (someWindow inverted windows) (refusal refused.notBeforeEnd)
     (value (cond (someWindow (holdsDate id date) windows) n unnamed))))
 
 -- "naming an id on a date", in an image

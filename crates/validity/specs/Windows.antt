@@ -12,6 +12,7 @@ use Rattle.validity.specs.declared.Date.{Date}
 use Rattle.validity.specs.declared.Window.{Window}
 use Rattle.validity.specs.declared.WindowState.{WindowState}
 use Rattle.validity.specs.declared.WindowState.the-variants.{Inactive, Active, Inverted, InvalidDate}
+use Rattle.jhash.specs.Refusals as refused
 
 -- what the windows say, in the rule's order
 unfoldable pub windowState : ℕ → Date → List Window → WindowState
@@ -24,11 +25,11 @@ windowState id date windows =
 abbrev pub answerBy : WindowState → Naming → Outcome Naming
 answerBy Inactive n = value unnamed
 answerBy Active n = value n
-answerBy Inverted n = refusal 23
-answerBy InvalidDate n = refusal 22
+answerBy Inverted n = refusal refused.notBeforeEnd
+answerBy InvalidDate n = refusal refused.noSuchDate
 
 abbrev pub placeByState : List ℕ → ℕ → Date → WindowState → Outcome Naming
-placeByState image id date s = cond (not (isDate date)) (refusal 22) (answerBy s (naming image id))
+placeByState image id date s = cond (not (isDate date)) (refusal refused.noSuchDate) (answerBy s (naming image id))
 
 abbrev pub partByState : Slice → ℕ → Date → WindowState → Slice
 partByState image id date s = sliceOr image (subslice image 0 0) (namedIn (placeByState (image .bytes) id date s))

@@ -5,6 +5,8 @@ ghost use Rattle.validity.specs.Rule.{namingOn, namePartOn};
 ghost use Rattle.validity.specs.Cases.{namedOnOf};
 ghost use Rattle.validity.specs.Windows.{placeByState, partByState};
 use calendar::is_date;
+use jhash::refusals::NO_SUCH_DATE;
+use jhash::refusals::NOT_BEFORE_END;
 use reader::Named;
 use windows::window_state;
 
@@ -48,7 +50,7 @@ pub fn place_by_state(image: &[u8], id: u32, date: Date, s: WindowState) -> Name
     ensures { λ r. ⌜ namedOnOf r ≡ placeByState (now (image .entry)) id date s ⌝ }
 {
     if !is_date(date) {
-        return NamedOn::Refused(22);
+        return NamedOn::Refused(NO_SUCH_DATE);
     }
     match s {
         WindowState::Inactive => NamedOn::Nothing,
@@ -56,8 +58,8 @@ pub fn place_by_state(image: &[u8], id: u32, date: Date, s: WindowState) -> Name
             Named::Place { start, len } => NamedOn::Place { start, len },
             Named::Nothing => NamedOn::Nothing,
         },
-        WindowState::Inverted => NamedOn::Refused(23),
-        WindowState::InvalidDate => NamedOn::Refused(22),
+        WindowState::Inverted => NamedOn::Refused(NOT_BEFORE_END),
+        WindowState::InvalidDate => NamedOn::Refused(NO_SUCH_DATE),
     }
 }
 

@@ -10,6 +10,7 @@ use Rattle.image.specs.Stored.{whole, entriesIn, between}
 use Rattle.writer.specs.declared.Closed.{Closed}
 use Rattle.writer.specs.declared.Closed.the-variants.{Size, Refused}
 use Rattle.writer.specs.State.{State, countsAgree, fits, finishedSize, tooLarge}
+use Rattle.jhash.specs.Refusals as refused
 
 -- the bytes from 2,072 to end, and the entries there
 abbrev pub entryArea : State → List ℕ
@@ -31,7 +32,8 @@ consistent s =
 -- either limit. 0: no refusal
 unfoldable pub closeRefusal : State → ℕ
 closeRefusal s =
-    cond (not (fits s)) 2 (cond (consistent s && not (tooLarge (s .writer .length) (finishedSize (s .writer)))) 0 4)
+    cond (not (fits s)) refused.unfit
+    (cond (consistent s && not (tooLarge (s .writer .length) (finishedSize (s .writer)))) 0 refused.inconsistent)
 
 -- the size that an accepted close gives
 abbrev pub closedSize : State → ℕ

@@ -4,6 +4,7 @@ use Prim.Native.Nat.{ℕ}
 use mathlib.Core.Bool.{cond}
 use lib.Dec.{ltb}
 use Rattle.writer.specs.declared.CQDBWriter.{CQDBWriter}
+use Rattle.jhash.specs.Refusals as refused
 
 -- the same record, with another length of its buffer
 abbrev pub withLength : CQDBWriter → ℕ → CQDBWriter
@@ -12,7 +13,7 @@ withLength w n =
 
 -- 2 when the buffer, now of n bytes, has become shorter. 0: no refusal
 abbrev pub grownRefusal : CQDBWriter → ℕ → ℕ
-grownRefusal w n = cond (ltb n (w .length)) 2 0
+grownRefusal w n = cond (ltb n (w .length)) refused.unfit 0
 
 -- a refused call hands the record back unaltered
 abbrev pub grownWriter : CQDBWriter → ℕ → CQDBWriter

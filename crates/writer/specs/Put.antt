@@ -13,6 +13,7 @@ use Rattle.image.specs.declared.Mode.the-variants.{Twoway, Oneway}
 use Rattle.writer.specs.declared.CQDBWriter.{CQDBWriter}
 use Rattle.writer.specs.State.{State, refusesRepeats, fits, finishedSize, tooLarge}
 use Rattle.writer.specs.Close.{recorded, consistent}
+use Rattle.jhash.specs.Refusals as refused
 
 -- in two-way mode the back size becomes the larger of itself and id + 1
 abbrev pub backAfter : Mode → ℕ → ℕ → ℕ
@@ -53,11 +54,11 @@ repeated s name = containsName name (recorded s) && refusesRepeats (s .writer .r
 -- put, exceeds the buffer or 4,294,967,295. 0: no refusal
 unfoldable pub putRefusal : State → Entry → ℕ
 putRefusal s e =
-    cond (not (fits s)) 2
-    (cond (hasZero (e .name)) 13
-    (cond (walkFails s) 4
-    (cond (repeated s (e .name)) 16
-    (cond (tooLarge (s .writer .length) (finishedSize (writerAfterEntry (s .writer) e))) 3 0))))
+    cond (not (fits s)) refused.unfit
+    (cond (hasZero (e .name)) refused.zeroByte
+    (cond (walkFails s) refused.inconsistent
+    (cond (repeated s (e .name)) refused.repeated
+    (cond (tooLarge (s .writer .length) (finishedSize (writerAfterEntry (s .writer) e))) refused.noRoom 0))))
 
 -- put appends an entry and raises the counts; only that entry's bytes change
 unfoldable pub appended : State → Entry → State

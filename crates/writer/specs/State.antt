@@ -12,6 +12,7 @@ use Rattle.writer.specs.declared.Repeats.the-variants.{Off, On}
 use Rattle.writer.specs.declared.CQDBWriter.{CQDBWriter}
 use Rattle.writer.specs.declared.Begun.{Begun}
 use Rattle.writer.specs.declared.Begun.the-variants.{Fresh, Refused}
+use Rattle.jhash.specs.Refusals as refused
 -- the rules of the record that serializing has too: the finished size; no table count exceeds a number; table counts
 -- agree with entries
 pub use Rattle.serialize.specs.Record.{finishedOf, noneAbove, countsAgree}
@@ -60,7 +61,7 @@ fresh mode repeats buffer =
 
 -- begin gives 1 when the buffer, of n bytes, is under 2,072 bytes; 0 stands for no refusal
 abbrev pub beginRefusal : ℕ → ℕ
-beginRefusal n = cond (ltb n headSize) 1 0
+beginRefusal n = cond (ltb n headSize) refused.tooShort 0
 
 -- what begin answers: the fresh record, or only the refusal's number
 unfoldable pub beginning : Mode → Repeats → ℕ → Outcome CQDBWriter

@@ -6,6 +6,8 @@ ghost use Rattle.writer.specs.Close.{consistent};
 ghost use Rattle.writer.specs.steps.Earlier.{EndInside, sameCounts, walkRefusal, earlierRefusal};
 use super::CQDBWriter;
 use super::Repeats;
+use jhash::refusals::INCONSISTENT;
+use jhash::refusals::REPEATED;
 
 // Whether two lists of counts are the same.
 fn same_counts(a: &[u32; 256], b: &[u32; 256]) -> bool
@@ -31,16 +33,16 @@ pub(super) fn walk_refusal(w: CQDBWriter, counts: &[u32; 256], buf: &[u8], name:
     let mut tally = [0; 256];
     let walked = image::entries::walk(buf, w.end as usize, w.entries, &mut tally, name);
     if !walked.whole {
-        return 4;
+        return INCONSISTENT;
     }
     if !same_counts(counts, &tally) {
-        return 4;
+        return INCONSISTENT;
     }
     let mode = w.mode;
     if w.back as u64 != serialize::size::back_in(mode, walked.back) {
-        return 4;
+        return INCONSISTENT;
     }
-    if walked.contains { 16 } else { 0 }
+    if walked.contains { REPEATED } else { 0 }
 }
 
 // Whether the entries are whole and have the record's counts and back size. No name is sought: the empty one stands in.
@@ -48,7 +50,7 @@ pub(super) fn agrees(w: CQDBWriter, counts: &[u32; 256], buf: &[u8]) -> bool
     requires { ⌜ EndInside w (now buf) ⌝ }
     ensures { λ r. ⌜ r ≡ consistent (stateWith w (now (counts .entry)) (now (buf .entry))) ⌝ }
 {
-    walk_refusal(w, counts, buf, &buf[..0]) != 4
+    walk_refusal(w, counts, buf, &buf[..0]) != INCONSISTENT
 }
 
 // The refusal of a put of this name because of the earlier entries, 0 for none. With repeats on they are not walked.

@@ -9,6 +9,11 @@ ghost use Rattle.writer.specs.steps.Closing.{WriteClosedPost};
 use image::HEAD_SIZE;
 use image::HEAD_SIZE_64;
 use image::Mode;
+use jhash::refusals::INCONSISTENT;
+use jhash::refusals::NO_ROOM;
+use jhash::refusals::TOO_SHORT;
+use jhash::refusals::UNFIT;
+use jhash::refusals::ZERO_BYTE;
 
 pub mod c_record; // c_record.rt: the writer record as C has it
 mod check;
@@ -64,7 +69,7 @@ pub fn begin(mode: Mode, repeats: Repeats, counts: &mut [u32; 256], buf: &[u8]) 
     ensures counts { λ r. ⌜ now (counts .exit) ≡ countsBegun (length (now (buf .entry))) (now (counts .entry)) ⌝ }
 {
     if buf.len() < HEAD_SIZE {
-        return Begun::Refused(1);
+        return Begun::Refused(TOO_SHORT);
     }
     *counts = [0; 256];
     Begun::Fresh(CQDBWriter {
@@ -84,20 +89,20 @@ fn put_refusal(w: CQDBWriter, counts: &[u32; 256], buf: &[u8], name: &[u8], id: 
         ⌝ }
 {
     if !record::fits(w, counts, buf) {
-        return 2;
+        return UNFIT;
     }
     if image::zero::has_zero(name) {
-        return 13;
+        return ZERO_BYTE;
     }
     let earlier = check::earlier_refusal(w, counts, buf, name);
     if earlier != 0 {
         return earlier;
     }
     if 4294967295 <= name.len() {
-        return 3;
+        return NO_ROOM;
     }
     if record::too_large(w.length, record::size_with(w, name.len(), id)) {
-        return 3;
+        return NO_ROOM;
     }
     0
 }
@@ -158,7 +163,7 @@ pub fn grown(w: CQDBWriter, length: u64) -> RecordAnswer
 {
     if length < w.length {
         return RecordAnswer {
-            refusal: 2,
+            refusal: UNFIT,
             writer: w,
         };
     }
@@ -182,15 +187,15 @@ pub fn close_refusal(w: CQDBWriter, counts: &[u32; 256], buf: &[u8]) -> u32
     ensures { λ r. ⌜ r ≡ closeRefusal (stateWith w (now (counts .entry)) (now (buf .entry))) ⌝ }
 {
     if !record::fits(w, counts, buf) {
-        return 2;
+        return UNFIT;
     }
     let mode = w.mode;
     let size = serialize::size::finished_size(mode, w.end, w.entries, w.back);
     if record::too_large(w.length, size) {
-        return 4;
+        return INCONSISTENT;
     }
     if !check::agrees(w, counts, buf) {
-        return 4;
+        return INCONSISTENT;
     }
     0
 }
