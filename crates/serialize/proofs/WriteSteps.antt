@@ -1,5 +1,5 @@
 -- The steps of serializing: the sizes, where the back array begins, head and rows. Assumes nothing.
-use Prim.Native.Nat.{ℕ, _+_, _-_, _*_, _≤_}
+use Prim.Native.Nat.{ℕ, _+_, _-_, _*_, _≤_, _<_}
 use native.Mathlib.Omega.{arith}
 use mathlib.Core.Path.{_≡_, sym, ap, ap₂, _∙_}
 use mathlib.Core.Bool.{Bool, true, false, cond}
@@ -7,12 +7,12 @@ use mathlib.Core.List.{List}
 use lib.ListN.{replicate}
 use lib.Seq.{sets}
 use lib.Dec.{eqb}
-use borrow.Author.Tests.{eq-eqb, ne-eqb}
+use borrow.Author.Tests.{eq-eqb, ne-eqb, le-leb, lt-leb}
 use Rattle.image.specs.Image.{backIn, flagWord, headBytes}
 use Rattle.image.specs.declared.Mode.{Mode}
 use Rattle.image.specs.declared.Mode.the-variants.{Twoway, Oneway}
-use Rattle.serialize.specs.Record.{finishedOf}
-use Rattle.serialize.specs.steps.Written.{rowsFrom, backOffsetOf, headed, zeroed, begunImage}
+use Rattle.serialize.specs.Record.{finishedOf, noneAbove}
+use Rattle.serialize.specs.steps.Written.{rowsFrom, backOffsetOf, headed, zeroed, begunImage, byTables}
 
 pub backIn-le : (mode : Mode) (n : ℕ) → backIn mode n ≤ n
 backIn-le Twoway n = omega arith
@@ -55,3 +55,10 @@ module _ (mode : Mode) (end entries back : ℕ) where
   unfolding begunImage zeroed
   begun-parts counts buf p en q =
       q ∙ ap₂ (λ (b : List ℕ) (k : ℕ). sets b (end + 16 * entries) (replicate (k - (end + 16 * entries)) 0)) p en
+
+-- by tables, or one by one
+pub by-tables-few : (counts : List ℕ) (entries : ℕ) → entries < 1024 → false ≡ byTables counts entries
+by-tables-few counts entries h = rw (lt-leb 1024 entries h)
+
+pub by-tables-many : (counts : List ℕ) (entries : ℕ) (b : Bool) → 1024 ≤ entries → b ≡ noneAbove counts 4608 → b ≡ byTables counts entries
+by-tables-many counts entries b h e = rw (le-leb 1024 entries h) e

@@ -88,7 +88,7 @@ pub fn write_image(
     let size = size::finished_size(mode, end, entries, back) as usize;
     let back_offset = size::back_offset(mode, end, entries, back) as usize;
     let last = end as usize;
-    if !tables::copyable(counts) {
+    if !tables::by_tables(counts, entries) {
         return tables::insert_singly(mode, back_offset, &mut *buf, last, entries, size);
     }
     partition::partition_entries(mode, back_offset, &mut *buf, &mut places, last, entries);

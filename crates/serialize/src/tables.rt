@@ -3,10 +3,9 @@
 // miss it.
 ghost use mathlib.Core.Path.{_≡_};
 ghost use mathlib.Core.Bool.{true};
-ghost use Rattle.serialize.specs.Record.{noneAbove};
 ghost use Rattle.serialize.specs.steps.Partition.{CopyPairsPre, PairsCopied, InsertPairsPre, FillTablePre};
 ghost use Rattle.serialize.specs.steps.Partition.{EachCopied, FillTablesPre};
-ghost use Rattle.serialize.specs.steps.Written.{FillAllPre};
+ghost use Rattle.serialize.specs.steps.Written.{byTables, FillAllPre};
 ghost use Rattle.serialize.specs.steps.Meeting.{PairsInserted, TableDone, TablesDone, SinglyDone, AllDone};
 use super::counts::none_above;
 use super::head::as_u64;
@@ -27,6 +26,9 @@ const MANY_PAIRS: usize = 4608;
 
 // The same, as counts are stored.
 const MANY_PAIRS_32: u32 = MANY_PAIRS as u32;
+
+// Fewer entries are inserted one by one by close.
+const FEW_ENTRIES: u32 = 1024;
 
 // The words of each copy.
 const FEW_WORDS: usize = 2 * FEW_PAIRS;
@@ -125,10 +127,14 @@ pub(super) fn insert_singly(
     insert_entries(mode, back_offset, &mut *buf, end, entries)
 }
 
-// Does no table have more pairs than the copy on the stack has room for?
-pub(super) fn copyable(counts: &[u32; 256]) -> bool
-    ensures { λ r. ⌜ r ≡ noneAbove (now (counts .entry)) 4608 ⌝ }
+// Does close fill tables from pairs? Not of few entries, where to insert them one by one takes a fifth less time at
+// 400, and not where a table has more pairs than the copy on the stack has room for.
+pub(super) fn by_tables(counts: &[u32; 256], entries: u32) -> bool
+    ensures { λ r. ⌜ r ≡ byTables (now (counts .entry)) entries ⌝ }
 {
+    if entries < FEW_ENTRIES {
+        return false;
+    }
     none_above(counts, MANY_PAIRS_32)
 }
 

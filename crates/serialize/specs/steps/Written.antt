@@ -2,15 +2,15 @@
 -- specs/Serialize says.
 use Prim.Native.Nat.{ℕ, zero, suc, _+_, _*_, _-_, _<_, _≤_}
 use mathlib.Core.Path.{_≡_}
-use mathlib.Core.Bool.{cond}
+use mathlib.Core.Bool.{Bool, cond, _&&_}
 use mathlib.Core.List.{List, [], _++_}
 use lib.ListN.{length, getD, replicate}
 use lib.Seq.{sets}
-use lib.Dec.{eqb}
+use lib.Dec.{eqb, leb}
 use Rattle.image.specs.Bytes.{le32}
 use Rattle.image.specs.Image.{headSize, headBytes, flagWord, backIn}
 use Rattle.image.specs.declared.Mode.{Mode}
-use Rattle.serialize.specs.Record.{finishedOf}
+use Rattle.serialize.specs.Record.{finishedOf, noneAbove}
 use Rattle.serialize.specs.steps.Partition.{tableOffsetsFrom}
 
 -- the rows of the m tables from t on, of which the first with entries begins at o
@@ -59,6 +59,10 @@ begunImage mode end entries back counts buf =
 pub record ImageBegun (mode : Mode) (end entries back : ℕ) (counts buf places buf′ places′ : List ℕ) : Type 0 where
   pub image : buf′ ≡ begunImage mode end entries back counts buf
   pub begins : places′ ≡ sets places 0 (tableOffsetsFrom counts end 0 256)
+
+-- does close fill tables from pairs? From 1,024 entries on, where no table has more than 4,608
+abbrev pub byTables : List ℕ → ℕ → Bool
+byTables counts entries = leb 1024 entries && noneAbove counts 4608
 
 -- the entries end in the image, and the image in the buffer
 pub record FillAllPre (back-offset end size : ℕ) (buf : List ℕ) : Type 0 where
