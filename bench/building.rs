@@ -43,7 +43,7 @@ fn building(n: usize, repetitions: usize) -> (f64, f64) {
     times
 }
 
-// The same list in one call with repeats off, with six words of lent memory for each name; beside the Rust's puts and close.
+// The same list in one call with repeats off, with five words of lent memory for each name; beside the Rust's puts and close.
 fn whole_list(n: usize, repetitions: usize) {
     let names = Names::new('p', 9, 0..n);
     let names = names.all();
@@ -51,7 +51,7 @@ fn whole_list(n: usize, repetitions: usize) {
     let ends: Vec<u64> = (1..=n as u64).map(|i| 9 * i).collect();
     let ids: Vec<u32> = (0..n as u32).collect();
     let list = Joined { names: &joined, ends: &ends, ids: &ids };
-    let (mut refusals, mut work) = (vec![0; n], vec![0; 6 * n]);
+    let (mut refusals, mut work) = (vec![0; n], vec![0; 5 * n]);
     let size = image_size(n, 9);
     let (mut a, mut b) = (vec![0u8; size], vec![0u8; size]);
     let mut one_call = || {
@@ -70,7 +70,7 @@ fn refused_name(n: usize, repetitions: usize) {
     let repeated = [&clean[..9 * (n - 1)], &clean[..9]].concat();
     let ends: Vec<u64> = (1..=n as u64).map(|i| 9 * i).collect();
     let ids: Vec<u32> = (0..n as u32).collect();
-    let buffers = || (vec![0; n], vec![0; 6 * n], vec![0u8; image_size(n, 9)]);
+    let buffers = || (vec![0; n], vec![0; 5 * n], vec![0u8; image_size(n, 9)]);
     let one_call = |names: &[u8], accepted: usize, (refusals, work, buf): &mut (Vec<u32>, Vec<u32>, Vec<u8>)| {
         let answer = archive::build(0, 0, black_box(buf), Joined { names, ends: &ends, ids: &ids }, refusals, work);
         assert_eq!((answer.refusal, answer.accepted as usize), (0, accepted));
@@ -105,9 +105,12 @@ pub fn run() {
     building(100_000, 200);
     let large = building(1_000_000, 31);
     println!("| build, an entry of 1000000 over one of 4096 | {:.2} | {:.2} | | |", large.0 / small.0, large.1 / small.1);
+    whole_list(100, 20_000);
+    whole_list(1_000, 5_000);
     whole_list(4_096, 2_000);
     whole_list(100_000, 100);
     whole_list(1_000_000, 31);
+    whole_list(1_500_000, 15);
     refused_name(4_096, 2_000);
     refused_name(100_000, 100);
     refused_name(1_000_000, 31);

@@ -68,7 +68,7 @@ impl List {
         let mut list = List { n, names, ends, ids, image: vec![] };
         let needs = archive::build_needs(0, list.names.len(), &list.ids);
         let mut image = vec![0; needs.bytes as usize];
-        let answer = archive::build(0, 0, &mut image, list.joined(), &mut vec![0; n], &mut vec![0; 6 * n]);
+        let answer = archive::build(0, 0, &mut image, list.joined(), &mut vec![0; n], &mut vec![0; 5 * n]);
         assert_eq!((answer.accepted as usize, answer.size as usize), (n, image.len()));
         list.image = image;
         list

@@ -1,5 +1,5 @@
 // What writing a list costs, and the checks of a whole image (bench/costs.rs).
-use crate::archive::{self, Counts, Record};
+use crate::archive::{self, Counts, Joined, Record};
 use crate::{least, least_of, Cost, List};
 use std::hint::black_box;
 use std::time::Instant;
@@ -53,12 +53,24 @@ fn writing(list: &List) -> Vec<Cost> {
     ]
 }
 
-// A whole list in one call, with so many words of lent memory.
-fn built(list: &List, repeats: u32, words: usize) -> f64 {
-    let (mut buf, mut refusals, mut work) = (vec![0; list.image.len()], vec![0; list.n], vec![0; words]);
+// A whole list in one call, with no lent memory.
+fn built(list: &List) -> f64 {
+    let (mut buf, mut refusals) = (vec![0; list.image.len()], vec![0; list.n]);
     least(list.n, || {
-        let answer = archive::build(0, repeats, black_box(&mut buf), list.joined(), &mut refusals, &mut work);
+        let answer = archive::build(0, 0, black_box(&mut buf), list.joined(), &mut refusals, &mut []);
         assert_eq!(answer.accepted as usize, list.n);
+    })
+}
+
+// The same with its last name equal to its first, which is refused, and with so many words of lent memory.
+fn built_refused(list: &List, words: usize) -> f64 {
+    let (mut buf, mut refusals, mut work) = (vec![0; list.image.len()], vec![0; list.n], vec![0; words]);
+    let size = list.names.len() / list.n;
+    let names = [&list.names[..list.names.len() - size], &list.names[..size]].concat();
+    let repeated = Joined { names: &names, ..list.joined() };
+    least(list.n, || {
+        let answer = archive::build(0, 0, black_box(&mut buf), repeated, &mut refusals, &mut work);
+        assert_eq!(answer.accepted as usize, list.n - 1);
     })
 }
 
@@ -68,15 +80,14 @@ fn building(list: &List) -> Vec<Cost> {
     };
     vec![
         ("build_needs", "id", least(list.n, needs)),
-        ("build, 6 words for each name", "name", built(list, 0, 6 * list.n)),
-        ("build, 3 words for each name", "name", built(list, 0, 3 * list.n)),
-        ("build, no words, repeats on", "name", built(list, 1, 0)),
+        ("build, no name refused", "name", built(list)),
+        ("build, a name refused, 5 words", "name", built_refused(list, 5 * list.n)),
     ]
 }
 
 /// Each of n names is compared with n / 2 earlier ones: for a short list.
 pub fn walked(list: &List) -> Cost {
-    ("build, no words, repeats off", "name and earlier name", built(list, 0, 0) * 2.0 / list.n as f64)
+    ("build, a name refused, no words", "name and earlier name", built_refused(list, 0) * 2.0 / list.n as f64)
 }
 
 fn checking(list: &List) -> Vec<Cost> {

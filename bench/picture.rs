@@ -43,7 +43,7 @@ fn measure(n: usize, repetitions: usize) -> Costs {
     let ids: Vec<u32> = (0..n as u32).collect();
     let size = 2072 + n * (29 + LENGTH);
     let (mut ours, mut rust) = (vec![0u8; size], vec![0u8; size]);
-    let (mut refusals, mut work) = (vec![0; n], vec![0; 6 * n]);
+    let (mut refusals, mut work) = (vec![0; n], vec![0; 5 * n]);
     let asked = Names::of(LENGTH, mixed(n).map(|i| put[i].to_string()));
     let questions = Questions { names: asked.all(), answers: mixed(n).map(|i| i as i64).collect() };
     let list = List { bytes: text.as_ptr(), length: LENGTH, n };

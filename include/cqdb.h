@@ -33,10 +33,9 @@
      call                            time for each                            4,096   100,000   stack
      average                         entry                                       23        40       2
      begin                           call                                        14
-     build, 3 words for each name    name                                        23        39      41
-     build, 6 words for each name    name                                        13        18      41
-     build, no words, repeats off    name and earlier name                      5.2                41
-     build, no words, repeats on     name                                        21        26      41
+     build, a name refused, 5 words  name                                        34        53      41
+     build, a name refused, no words name and earlier name                      5.2                41
+     build, no name refused          name                                        11        15      41
      build_needs                     id                                         0.2       0.2
      bundle_append                   image in the file                          2.3
      bundle_append                   image of 157,720 bytes, its copy         2,684

@@ -51,22 +51,20 @@ static void index_(void) { kept = cqdb_index(&w, buf, sizeof buf, slots, 16); }
 static void put_indexed(void) { kept = cqdb_put_indexed(&w, buf, sizeof buf, slots, 16, names + 18, 9, 3); }
 static void index_words(void) { kept = cqdb_index_words(NAMES); }
 static void close_(void) { kept = cqdb_close(&w, buf, sizeof buf).size; }
-static void built(size_t words, uint32_t repeats) {
-    cqdb_build_answer a = cqdb_build(CQDB_TWOWAY, repeats, buf, sizeof buf, names, sizeof names, ends, ids, NAMES, refusals, NAMES, work, words);
+static void build_(void) {
+    cqdb_build_answer a = cqdb_build(CQDB_TWOWAY, CQDB_REPEATS_OFF, buf, sizeof buf, names, sizeof names, ends, ids, NAMES, refusals, NAMES, work, 0);
     kept = a.accepted == NAMES ? a.size : 0;
 }
-static void build_6(void) { built(6 * NAMES, CQDB_REPEATS_OFF); }
 /* The last name is the first one: it is refused, and the names are put one by one. */
-static void build_refused(void) {
+static void refused(size_t words) {
     uint8_t last[9];
     memcpy(last, names + 9 * (NAMES - 1), 9);
     memcpy(names + 9 * (NAMES - 1), names, 9);
-    kept = cqdb_build(CQDB_TWOWAY, CQDB_REPEATS_OFF, buf, sizeof buf, names, sizeof names, ends, ids, NAMES, refusals, NAMES, work, 6 * NAMES).accepted;
+    kept = cqdb_build(CQDB_TWOWAY, CQDB_REPEATS_OFF, buf, sizeof buf, names, sizeof names, ends, ids, NAMES, refusals, NAMES, work, words).accepted;
     memcpy(names + 9 * (NAMES - 1), last, 9);
 }
-static void build_3(void) { built(3 * NAMES, CQDB_REPEATS_OFF); }
-static void build_on(void) { built(0, CQDB_REPEATS_ON); }
-static void build_off(void) { built(0, CQDB_REPEATS_OFF); }
+static void build_refused(void) { refused(5 * NAMES); }
+static void build_walked(void) { refused(0); }
 static void load(void) { kept = cqdb_load(1, buf, sizeof buf).accepted; }
 static void name_on(void) {
     cqdb_date date = {2024, 2, 29};
@@ -103,8 +101,8 @@ static const struct {
              {"size_hint", size_hint}, {"home", home}, {"canonical", canonical}, {"one_to_one", one_to_one}, {"average", average}, {"lengths", lengths}, {"page", print}, {"page_part", page_part}, {"grown", grown},
              {"build_needs", build_needs},
              {"round", round_}, {"name_round", name_round}, {"begin", begin}, {"put, repeats on", put_on}, {"put, repeats off", put_off},
-             {"index", index_}, {"put_indexed", put_indexed}, {"index_words", index_words}, {"close", close_}, {"build, 6 words for each name", build_refused}, {"build, 3 words for each name", build_3},
-             {"build, no words, repeats on", build_on}, {"build, no words, repeats off", build_off}, {"load", load}, {"name_on", name_on},
+             {"index", index_}, {"put_indexed", put_indexed}, {"index_words", index_words}, {"close", close_}, {"build, no name refused", build_}, {"build, a name refused, 5 words", build_refused},
+             {"build, a name refused, no words", build_walked}, {"load", load}, {"name_on", name_on},
              {"next_change", next_change}, {"moved", moved}, {"bundle_append", bundle_append}, {"bundle_open", bundle_open}, {"bundle_count", bundle_count}, {"sheet_write", sheet_write},
              {"sheet_read", sheet_read}, {"references_first", references_first}, {"preflight", preflight}, {"preflight_first", preflight_first}, {"preflight_dates", preflight_dates}};
 
@@ -145,7 +143,7 @@ int main(void) {
         ends[i] = 9 * ((uint64_t)i + 1);
         ids[i] = i;
     }
-    build_6();
+    build_();
     size = (size_t)kept;
     memcpy(image, buf, size);
     memcpy(file, buf, size);
