@@ -19,3 +19,4 @@ pub mod RefusedRows
 pub mod Distinct
 pub mod Fails
 pub mod Says
+pub mod Words

@@ -3,3 +3,4 @@ pub mod Asked
 pub mod Theorem
 pub mod Held
 pub mod Fails
+pub mod Words
