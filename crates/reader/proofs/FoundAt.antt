@@ -3,7 +3,7 @@ use Prim.Native.Nat.{ℕ, suc, _+_, _*_, _-_, _/_, _≤_, _<_}
 use native.Mathlib.Omega.{arith}
 use native.Mathlib.Nat.{mod-lt}
 use mathlib.Core.Path.{_≡_, refl, sym, ap, _∙_}
-use mathlib.Core.Bool.{Bool, true, false, cond, _||_}
+use mathlib.Core.Bool.{false, cond, _||_}
 use mathlib.Core.List.{List, [], _∷_}
 use borrow.Author.Tests.{ltb-false, eqb-true, eqb-false}
 use lib.Dec.{eqb, ltb, leb}
@@ -119,8 +119,8 @@ module _ (image name : List ℕ) (f : Found) where
       let long = leb 4294967295 (length name) in
       let in-image = chose-second (ltb (length image) 2072) (nothing 0) (cond long (nothing 0) by-hash) (found f) (not-found 0 f) e in
       let hashed = chose-second long (nothing 0) by-hash (found f) (not-found 0 f) (in-image .1) in
-      let searched =
-      chose-second (unsearched image t) (nothing 0) (searchTable image name (hashOf name) o n) (found f) (not-found 0 f) (hashed .1) in
+      let in-table = searchTable image name (hashOf name) o n in
+      let searched = chose-second (unsearched image t) (nothing 0) in-table (found f) (not-found 0 f) (hashed .1) in
       let row = or-false-first (eqb o 0 || eqb n 0) (tablePastEnd image t) (searched .0) in
       let some-bucket = eqb-false n 0 (or-false-second (eqb o 0) (eqb n 0) row) in
       let fits = ltb-false (length image) (o + 8 * n) (or-false-second (eqb o 0 || eqb n 0) (tablePastEnd image t) (searched .0)) in

@@ -2,7 +2,7 @@
 use Prim.Native.Nat.{ℕ, _+_, _*_, _-_, _<_}
 use native.Mathlib.Omega.{arith}
 use mathlib.Core.Path.{_≡_, refl}
-use mathlib.Core.Bool.{Bool, true, false, cond, _||_}
+use mathlib.Core.Bool.{cond, _||_}
 use mathlib.Core.List.{List}
 use lib.Dec.{eqb, leb}
 use lib.ListN.{getD}
@@ -22,8 +22,8 @@ named-small image id s n bytes e =
     let behind = leb (backSizeAt image) id in
     let array = chose-second (noBack image) unnamed (cond behind unnamed (namingAt image at)) (place s n) (never s n) e in
     let below = chose-second behind unnamed (namingAt image at) (place s n) (never s n) (array .1) in
-    let there =
-    chose-second (eqb at 0 || broken image at) unnamed (place (at + 8) (word image (at + 4) - 1)) (place s n) (never s n) (below .1) in
+    let entry = place (at + 8) (word image (at + 4) - 1) in
+    let there = chose-second (eqb at 0 || broken image at) unnamed entry (place s n) (never s n) (below .1) in
     let en : word image (at + 4) - 1 ≡ n = cc (there .1) in
     omega (arith, word-below image (at + 4) bytes)
 

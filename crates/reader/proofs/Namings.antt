@@ -1,7 +1,7 @@
 -- Naming: what is known where the back array can be read, and where a name has its place. Assumes nothing.
 use Prim.Native.Nat.{ℕ, _+_, _*_, _-_, _≤_, _<_}
 use native.Mathlib.Omega.{arith}
-use mathlib.Core.Path.{_≡_, refl, sym, ap, _∙_}
+use mathlib.Core.Path.{_≡_, sym, ap, _∙_}
 use mathlib.Core.Bool.{Bool, true, false, cond, _||_}
 use mathlib.Core.List.{List}
 use borrow.Author.Tests.{ltb-false, leb-false}
@@ -64,8 +64,8 @@ named image id s n e =
     let behind = leb (backSizeAt image) id in
     let array = chose-second (noBack image) unnamed (cond behind unnamed (namingAt image at)) (place s n) (never s n) e in
     let below = chose-second behind unnamed (namingAt image at) (place s n) (never s n) (array .1) in
-    let there =
-    chose-second (eqb at 0 || broken image at) unnamed (place (at + 8) (word image (at + 4) - 1)) (place s n) (never s n) (below .1) in
+    let entry = place (at + 8) (word image (at + 4) - 1) in
+    let there = chose-second (eqb at 0 || broken image at) unnamed entry (place s n) (never s n) (below .1) in
     let w = unbroken image at (or-false-second (eqb at 0) (broken image at) (there .0)) in
     let es : at + 8 ≡ s = cc (there .1) in
     let en : word image (at + 4) - 1 ≡ n = cc (there .1) in
