@@ -134,13 +134,13 @@ pub good-all : (room : ℕ) (images : List (List ℕ)) (f : File) (xs : List (Li
     → Good room (afterAll f images) (xs ++ acceptedImages f images)
 unfolding afterAll acceptedImages
 good-all room [] f xs g = rw (append-nil xs) g
-good-all room (x ∷ images) f xs g = go (appendTo f x) refl (λ ys h. good-all room images (afterOne f x) ys h)
+good-all room (x ∷ images) f xs g = good-by-outcome (appendTo f x) refl (λ ys h. good-all room images (afterOne f x) ys h)
   where
-    go : (o : Outcome ℕ) → appendTo f x ≡ o
+    good-by-outcome : (o : Outcome ℕ) → appendTo f x ≡ o
         → ((ys : List (List ℕ)) → Good room (afterOne f x) ys → Good room (afterAll (afterOne f x) images) (ys ++ acceptedImages (afterOne f x) images))
         → Good room (afterAll (afterOne f x) images) (xs ++ keptIf o x (acceptedImages (afterOne f x) images))
-    go (value m) e more = rw (append-snoc xs x (acceptedImages (afterOne f x) images)) at (more (xs ++ x ∷ []) (good-more room f xs g x m e))
-    go (refusal r) e more = more xs (rw (after-refused f x r e) g)
+    good-by-outcome (value m) e more = rw (append-snoc xs x (acceptedImages (afterOne f x) images)) at (more (xs ++ x ∷ []) (good-more room f xs g x m e))
+    good-by-outcome (refusal r) e more = more xs (rw (after-refused f x r e) g)
 
 -- from an empty file
 pub good-left : (buf : List ℕ) (images : List (List ℕ)) → Good (length buf) (left buf images) (acceptedImages (emptyFile buf) images)

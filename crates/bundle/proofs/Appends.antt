@@ -4,13 +4,13 @@ use native.Mathlib.Omega.{arith}
 use mathlib.Core.Path.{_≡_, refl, sym, ap, _∙_}
 use mathlib.Core.Bool.{Bool, true, false, cond, not, _||_}
 use mathlib.Core.List.{List, _++_}
-use borrow.Author.Tests.{lt-ltb, le-ltb, ltb-false, eq-eqb, ne-eqb, eqb-true}
+use borrow.Author.Tests.{lt-ltb, le-ltb, ltb-false, eq-eqb, ne-eqb, eqb-true, not-false}
 use lib.Dec.{eqb, ltb}
 use lib.ListN.{length, take, drop, length-append}
 use lib.Seq.{sets, sets-eq, length-take-le, take-at}
 use Rattle.jhash.specs.Outcome.{Outcome, value, refusal}
 use Rattle.jhash.proofs.ValueOrRefusal.{no-value, same-value}
-use Rattle.image.proofs.Bools.{false-not-true}
+use Rattle.image.proofs.Bools.{false-not-true, or-false-first, or-false-second, chose-first, chose-second}
 use Rattle.bundle.specs.FileWalk.{counting}
 use Rattle.bundle.specs.Append.{isValue, wholeFile, unfit, appendRefusal, appending, afterAppend}
 
@@ -51,19 +51,17 @@ module _ (buf : List ℕ) (n : ℕ) (image : List ℕ) where
 
   pub passed : appendRefusal buf n image ≡ 0 → Passed
   unfolding appendRefusal
-  passed h = go (ltb (length buf) n) (wholeFile (take n buf)) (unfit image) (ltb (length buf) (n + length image)) refl refl refl refl h
-    where
-      go : (a w u r : Bool) → ltb (length buf) n ≡ a → wholeFile (take n buf) ≡ w → unfit image ≡ u → ltb (length buf) (n + length image) ≡ r
-          → _≡_ {A = ℕ} (cond (a || not w || u) 10 (cond r 3 0)) 0 → Passed
-      go true w u r ea ew eu er e = absurd (ten-none e)
-      go false false u r ea ew eu er e = absurd (ten-none e)
-      go false true true r ea ew eu er e = absurd (ten-none e)
-      go false true false true ea ew eu er e = absurd (three-none e)
-      go false true false false ea ew eu er e = record {
-        inside = ltb-false (length buf) n ea;
-        walked = ew;
-        fit = eu;
-        room = ltb-false (length buf) (n + length image) er;
+  passed h =
+      let long = ltb (length buf) n in
+      let broken = not (wholeFile (take n buf)) in
+      let full = ltb (length buf) (n + length image) in
+      let fine = chose-second {A = ℕ} (long || broken || unfit image) 10 (cond full 3 0) 0 ten-none h in
+      let front = or-false-first (long || broken) (unfit image) (fine .0) in
+      record {
+        inside = ltb-false (length buf) n (or-false-first long broken front);
+        walked = not-false (wholeFile (take n buf)) (or-false-second long broken front);
+        fit = or-false-second (long || broken) (unfit image) (fine .0);
+        room = ltb-false (length buf) (n + length image) (chose-second {A = ℕ} full 3 0 0 three-none (fine .1) .0);
       }
 
   -- the answer and the effect: a refusal leaves everything, an accepted append writes the image's bytes
@@ -78,20 +76,18 @@ module _ (buf : List ℕ) (n : ℕ) (image : List ℕ) where
   -- and the other way round: what an answer says of the decision
   pub was-accepted : (m : ℕ) → appending buf n image ≡ value m → (appendRefusal buf n image ≡ 0) × (m ≡ n + length image)
   unfolding appending
-  was-accepted m e = go (eqb (appendRefusal buf n image) 0) refl e
-    where
-      go : (b : Bool) → eqb (appendRefusal buf n image) 0 ≡ b → cond b (value (n + length image)) (refusal (appendRefusal buf n image)) ≡ value m
-          → (appendRefusal buf n image ≡ 0) × (m ≡ n + length image)
-      go true z q = (eqb-true (appendRefusal buf n image) 0 z, sym (same-value (n + length image) m q))
-      go false z q = absurd (no-value (appendRefusal buf n image) m q)
+  was-accepted m e =
+      let due = appendRefusal buf n image in
+      let chosen = chose-first (eqb due 0) (value (n + length image)) (refusal due) (value m) (no-value due m) e in
+      (eqb-true due 0 (chosen .0), sym (same-value (n + length image) m (chosen .1)))
 
   pub was-refused : (r : ℕ) → appending buf n image ≡ refusal r → afterAppend buf n image ≡ buf
   unfolding appending afterAppend
-  was-refused r e = go (eqb (appendRefusal buf n image) 0) e
-    where
-      go : (b : Bool) → cond b (value (n + length image)) (refusal (appendRefusal buf n image)) ≡ refusal r → cond b (sets buf n image) buf ≡ buf
-      go true q = absurd (no-value r (n + length image) (sym q))
-      go false q = refl
+  was-refused r e =
+      let due = appendRefusal buf n image in
+      let size = n + length image in
+      let chosen = chose-second (eqb due 0) (value size) (refusal due) (refusal r) (λ z. no-value r size (sym z)) e in
+      ap (λ (b : Bool). cond b (sets buf n image) buf) (chosen .0)
 
   pub was-sets : (m : ℕ) → appending buf n image ≡ value m → sets buf n image ≡ afterAppend buf n image
   was-sets m e = accepted (was-accepted m e .0) .1
@@ -108,8 +104,8 @@ module _ (buf : List ℕ) (n : ℕ) (image : List ℕ) where
 
 -- a walk of the whole file came to its end: so many images
 pub whole-counts : (file : List ℕ) → wholeFile file ≡ true → (n : ℕ) × (counting file ≡ value n)
-whole-counts file e = go (counting file) refl e
+whole-counts file e = counted-where-value (counting file) refl e
   where
-    go : (o : Outcome ℕ) → counting file ≡ o → isValue o ≡ true → (n : ℕ) × (counting file ≡ value n)
-    go (value n) q z = (n, q)
-    go (refusal k) q z = absurd (false-not-true z)
+    counted-where-value : (o : Outcome ℕ) → counting file ≡ o → isValue o ≡ true → (n : ℕ) × (counting file ≡ value n)
+    counted-where-value (value n) q z = (n, q)
+    counted-where-value (refusal k) q z = absurd (false-not-true z)

@@ -29,22 +29,22 @@ module _ (a b : List ℕ) (e : ℕ) (same : take e a ≡ take e b) (in-b : e ≤
 
   -- the walk to a position whose image ends before e
   pub place-same : (k at : ℕ) (p : Place) → placeFrom a at k ≡ value p → imageEnd p ≤ e → placeFrom b at k ≡ value p
-  place-same zero at p q l = go (met a at)
+  place-same zero at p q l = same-here (met a at)
     where
-      go : Met a at → placeFrom b at 0 ≡ value p
-      go (ended z) = absurd (no-value 11 p (sym (place-ended a at 0 z) ∙ q))
-      go (broke n z) = absurd (no-value 10 p (sym (place-broke a at 0 n z) ∙ q))
-      go (began h) =
+      same-here : Met a at → placeFrom b at 0 ≡ value p
+      same-here (ended z) = absurd (no-value 11 p (sym (place-ended a at 0 z) ∙ q))
+      same-here (broke n z) = absurd (no-value 10 p (sym (place-broke a at 0 n z) ∙ q))
+      same-here (began h) =
           let is = same-value (record { start = at; size = sizeAt a at }) p (sym (place-here a at h) ∙ q) in
           let l' : at + sizeAt a at ≤ e = rw (← is) at l in
           let s = size-same at (omega (arith, h .large)) in
           place-here b at (begins-same at h l') ∙ ap (λ (w : ℕ). value (record { start = at; size = w })) (sym s) ∙ ap value is
-  place-same (suc k) at p q l = go (met a at) (λ d. place-same k (at + sizeAt a at) p d l)
+  place-same (suc k) at p q l = same-behind (met a at) (λ d. place-same k (at + sizeAt a at) p d l)
     where
-      go : Met a at → (placeFrom a (at + sizeAt a at) k ≡ value p → placeFrom b (at + sizeAt a at) k ≡ value p) → placeFrom b at (suc k) ≡ value p
-      go (ended z) more = absurd (no-value 11 p (sym (place-ended a at (suc k) z) ∙ q))
-      go (broke n z) more = absurd (no-value 10 p (sym (place-broke a at (suc k) n z) ∙ q))
-      go (began h) more =
+      same-behind : Met a at → (placeFrom a (at + sizeAt a at) k ≡ value p → placeFrom b (at + sizeAt a at) k ≡ value p) → placeFrom b at (suc k) ≡ value p
+      same-behind (ended z) more = absurd (no-value 11 p (sym (place-ended a at (suc k) z) ∙ q))
+      same-behind (broke n z) more = absurd (no-value 10 p (sym (place-broke a at (suc k) n z) ∙ q))
+      same-behind (began h) more =
           let d = sym (place-next a at k h) ∙ q in
           let st = stands a k (at + sizeAt a at) p d in
           let l' : at + sizeAt a at ≤ e = omega (arith, st .behind, l) in

@@ -9,7 +9,7 @@ use borrow.Author.Tests.{lt-ltb, le-ltb, eq-eqb, ne-eqb, ltb-false}
 use lib.Dec.{ltb}
 use lib.ListN.{length}
 use Rattle.jhash.specs.Outcome.{Outcome, refusal}
-use Rattle.image.proofs.Bools.{or-false-first, or-false-second}
+use Rattle.image.proofs.Bools.{or-false-first, or-false-second, chose-second}
 use Rattle.bundle.specs.FileWalk.{sizeAt, breaks, fileStep}
 use Rattle.bundle.specs.steps.Contracts.{ImageSizeRead}
 
@@ -50,12 +50,12 @@ module _ (file : List ℕ) (at : ℕ) where
   met =
       elim (ℕ-discrete at (length file)) [
         | yes e ↦ ended e
-        | no n ↦ go n (breaks file at) refl
+        | no n ↦ broken-or-begun n (breaks file at) refl
       ]
     where
-      go : (at ≡ length file → ⊥) → (b : Bool) → breaks file at ≡ b → Met file at
-      go n true e = broke n e
-      go n false e = began (unbroken e)
+      broken-or-begun : (at ≡ length file → ⊥) → (b : Bool) → breaks file at ≡ b → Met file at
+      broken-or-begun n true e = broke n e
+      broken-or-begun n false e = began (unbroken e)
 
   -- what a step gives in each case
   module _ {A : Type 0} (end image : Outcome A) where
@@ -103,15 +103,13 @@ module _ (file : List ℕ) (at : ℕ) where
 
   -- what that number says
   pub none-there : (w : ℕ) → ImageSizeRead file at w → w ≡ 0 → breaks file at ≡ true
-  none-there w r z = go (breaks file at) refl (sym z ∙ r .size)
+  none-there w r z = breaks-where-none (breaks file at) refl (sym z ∙ r .size)
     where
-      go : (b : Bool) → breaks file at ≡ b → 0 ≡ cond b 0 (sizeAt file at) → b ≡ true
-      go true p q = refl
-      go false p q = let l = unbroken p .large in absurd (omega arith)
+      breaks-where-none : (b : Bool) → breaks file at ≡ b → 0 ≡ cond b 0 (sizeAt file at) → b ≡ true
+      breaks-where-none true p q = refl
+      breaks-where-none false p q = let l = unbroken p .large in absurd (omega arith)
 
   pub some-there : (w : ℕ) → ImageSizeRead file at w → (w ≡ 0 → ⊥) → ImageThere file at w
-  some-there w r n = go (breaks file at) refl (r .size)
-    where
-      go : (b : Bool) → breaks file at ≡ b → w ≡ cond b 0 (sizeAt file at) → ImageThere file at w
-      go true p q = absurd (n q)
-      go false p q = record { begins = unbroken p; size-is = sym q }
+  some-there w r n =
+      let chosen = chose-second (breaks file at) 0 (sizeAt file at) w (λ z. n (sym z)) (sym (r .size)) in
+      record { begins = unbroken (chosen .0); size-is = chosen .1 }

@@ -74,11 +74,11 @@ counting-starts file = record {
 
 pub counting-turn : (file : List ℕ) (at n size : ℕ) (x : Outcome ℕ) → Begins file at → sizeAt file at ≡ size → Counting file at n x
     → Counting file (at + size) (n + 1) x
-counting-turn file at n size x b e c = go (c .most) (c .enough) (c .rest)
+counting-turn file at n size x b e c = counting-behind (c .most) (c .enough) (c .rest)
   where
-    go : (m : ℕ) → length file - at < 2072 * suc m → countImagesFrom m file at n ≡ x → Counting file (at + size) (n + 1) x
-    go zero h r = let i = b .inside in let l = b .large in absurd (omega arith)
-    go (suc m) h r =
+    counting-behind : (m : ℕ) → length file - at < 2072 * suc m → countImagesFrom m file at n ≡ x → Counting file (at + size) (n + 1) x
+    counting-behind zero h r = let i = b .inside in let l = b .large in absurd (omega arith)
+    counting-behind (suc m) h r =
         let i = b .inside in
         let l = b .large in
         let f = c .few in

@@ -24,21 +24,21 @@ abbrev placeOf : List ℕ → ℕ → Place
 placeOf file at = record { start = at; size = sizeAt file at }
 
 pub stands : (file : List ℕ) (k at : ℕ) (p : Place) → placeFrom file at k ≡ value p → Stands file at p
-stands file zero at p e = go (met file at)
+stands file zero at p e = stands-here (met file at)
   where
-    go : Met file at → Stands file at p
-    go (ended q) = absurd (no-value 11 p (sym (place-ended file at 0 q) ∙ e))
-    go (broke n b) = absurd (no-value 10 p (sym (place-broke file at 0 n b) ∙ e))
-    go (began b) =
+    stands-here : Met file at → Stands file at p
+    stands-here (ended q) = absurd (no-value 11 p (sym (place-ended file at 0 q) ∙ e))
+    stands-here (broke n b) = absurd (no-value 10 p (sym (place-broke file at 0 n b) ∙ e))
+    stands-here (began b) =
         let is : placeOf file at ≡ p = same-value (placeOf file at) p (sym (place-here file at b) ∙ e) in
         let here : Stands file at (placeOf file at) = record { behind = omega arith; begins = b; sized = refl } in
         rw is at here
-stands file (suc k) at p e = go (met file at) (λ d. stands file k (at + sizeAt file at) p d)
+stands file (suc k) at p e = stands-behind (met file at) (λ d. stands file k (at + sizeAt file at) p d)
   where
-    go : Met file at → (placeFrom file (at + sizeAt file at) k ≡ value p → Stands file (at + sizeAt file at) p) → Stands file at p
-    go (ended q) more = absurd (no-value 11 p (sym (place-ended file at (suc k) q) ∙ e))
-    go (broke n b) more = absurd (no-value 10 p (sym (place-broke file at (suc k) n b) ∙ e))
-    go (began b) more =
+    stands-behind : Met file at → (placeFrom file (at + sizeAt file at) k ≡ value p → Stands file (at + sizeAt file at) p) → Stands file at p
+    stands-behind (ended q) more = absurd (no-value 11 p (sym (place-ended file at (suc k) q) ∙ e))
+    stands-behind (broke n b) more = absurd (no-value 10 p (sym (place-broke file at (suc k) n b) ∙ e))
+    stands-behind (began b) more =
         let s = more (sym (place-next file at k b) ∙ e) in
         record { behind = omega (arith, s .behind); begins = s .begins; sized = s .sized }
 
@@ -84,16 +84,16 @@ opens-alone file (refusal k) image e = absurd (no-value k image e)
 
 -- a refusal stays the same for every position behind
 pub for-good : (file : List ℕ) (j at d r : ℕ) → placeFrom file at j ≡ refusal r → placeFrom file at (j + d) ≡ refusal r
-for-good file zero at d r e = go (met file at)
+for-good file zero at d r e = refused-here (met file at)
   where
-    go : Met file at → placeFrom file at (0 + d) ≡ refusal r
-    go (ended q) = place-ended file at (0 + d) q ∙ sym (place-ended file at 0 q) ∙ e
-    go (broke n b) = place-broke file at (0 + d) n b ∙ sym (place-broke file at 0 n b) ∙ e
-    go (began b) = absurd (no-value r (placeOf file at) (sym e ∙ place-here file at b))
-for-good file (suc j) at d r e = go (met file at) (for-good file j (at + sizeAt file at) d r)
+    refused-here : Met file at → placeFrom file at (0 + d) ≡ refusal r
+    refused-here (ended q) = place-ended file at (0 + d) q ∙ sym (place-ended file at 0 q) ∙ e
+    refused-here (broke n b) = place-broke file at (0 + d) n b ∙ sym (place-broke file at 0 n b) ∙ e
+    refused-here (began b) = absurd (no-value r (placeOf file at) (sym e ∙ place-here file at b))
+for-good file (suc j) at d r e = refused-behind (met file at) (for-good file j (at + sizeAt file at) d r)
   where
-    go : Met file at → (placeFrom file (at + sizeAt file at) j ≡ refusal r → placeFrom file (at + sizeAt file at) (j + d) ≡ refusal r)
+    refused-behind : Met file at → (placeFrom file (at + sizeAt file at) j ≡ refusal r → placeFrom file (at + sizeAt file at) (j + d) ≡ refusal r)
         → placeFrom file at (suc j + d) ≡ refusal r
-    go (ended q) more = place-ended file at (suc j + d) q ∙ sym (place-ended file at (suc j) q) ∙ e
-    go (broke n b) more = place-broke file at (suc j + d) n b ∙ sym (place-broke file at (suc j) n b) ∙ e
-    go (began b) more = ap (placeFrom file at) (suc-add j d) ∙ place-next file at (j + d) b ∙ more (sym (place-next file at j b) ∙ e)
+    refused-behind (ended q) more = place-ended file at (suc j + d) q ∙ sym (place-ended file at (suc j) q) ∙ e
+    refused-behind (broke n b) more = place-broke file at (suc j + d) n b ∙ sym (place-broke file at (suc j) n b) ∙ e
+    refused-behind (began b) more = ap (placeFrom file at) (suc-add j d) ∙ place-next file at (j + d) b ∙ more (sym (place-next file at j b) ∙ e)

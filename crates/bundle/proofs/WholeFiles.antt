@@ -18,21 +18,21 @@ ten-eleven z = omega arith
 module _ (file : List ℕ) where
   -- no image from here on: the file's end is here
   pub none-ends : (at : ℕ) → HoldsImages file at 0 → at ≡ length file
-  none-ends at f = go (met file at)
+  none-ends at f = ends-where-none (met file at)
     where
-      go : Met file at → at ≡ length file
-      go (ended e) = e
-      go (broke n b) = absurd (ten-eleven (same-refusal 10 11 (sym (place-broke file at 0 n b) ∙ f .ends)))
-      go (began b) = absurd (no-value 11 (record { start = at; size = sizeAt file at }) (sym (f .ends) ∙ place-here file at b))
+      ends-where-none : Met file at → at ≡ length file
+      ends-where-none (ended e) = e
+      ends-where-none (broke n b) = absurd (ten-eleven (same-refusal 10 11 (sym (place-broke file at 0 n b) ∙ f .ends)))
+      ends-where-none (began b) = absurd (no-value 11 (record { start = at; size = sizeAt file at }) (sym (f .ends) ∙ place-here file at b))
 
   -- one more: an image begins here, and the others follow it
   pub some-begins : (at n : ℕ) → HoldsImages file at (suc n) → Begins file at
-  some-begins at n f = go (met file at) (f .each 0 (omega arith))
+  some-begins at n f = begins-where-placed (met file at) (f .each 0 (omega arith))
     where
-      go : Met file at → (p : Place) × (placeFrom file at 0 ≡ value p) → Begins file at
-      go (ended e) (p, q) = absurd (no-value 11 p (sym (place-ended file at 0 e) ∙ q))
-      go (broke n b) (p, q) = absurd (no-value 10 p (sym (place-broke file at 0 n b) ∙ q))
-      go (began b) q = b
+      begins-where-placed : Met file at → (p : Place) × (placeFrom file at 0 ≡ value p) → Begins file at
+      begins-where-placed (ended e) (p, q) = absurd (no-value 11 p (sym (place-ended file at 0 e) ∙ q))
+      begins-where-placed (broke n b) (p, q) = absurd (no-value 10 p (sym (place-broke file at 0 n b) ∙ q))
+      begins-where-placed (began b) q = b
 
   pub holds-next : (at n : ℕ) → Begins file at → HoldsImages file at (suc n) → HoldsImages file (at + sizeAt file at) n
   holds-next at n b f = record {
@@ -101,15 +101,15 @@ module _ (file : List ℕ) where
   count-broken k e = breaks-off k (length file / 2072) 0 0 e
 
   pub holds-count : (n : ℕ) → counting file ≡ value n → HoldsImages file 0 n
-  holds-count n e = go (comes (length file / 2072) 0 enough)
+  holds-count n e = holds-where-counted (comes (length file / 2072) 0 enough)
     where
-      go : Comes 0 → HoldsImages file 0 n
-      go (inl f) = let s = same-value (f .0) n (sym (count-holds (f .0) (f .1)) ∙ e) in rw s at (f .1)
-      go (inr b) = absurd (no-value 10 n (sym (count-broken (b .0) (b .1)) ∙ e))
+      holds-where-counted : Comes 0 → HoldsImages file 0 n
+      holds-where-counted (inl f) = let s = same-value (f .0) n (sym (count-holds (f .0) (f .1)) ∙ e) in rw s at (f .1)
+      holds-where-counted (inr b) = absurd (no-value 10 n (sym (count-broken (b .0) (b .1)) ∙ e))
 
   pub broken-count : counting file ≡ refusal 10 → (k : ℕ) × (placeOfImage file k ≡ refusal 10)
-  broken-count e = go (comes (length file / 2072) 0 enough)
+  broken-count e = broken-where-refused (comes (length file / 2072) 0 enough)
     where
-      go : Comes 0 → (k : ℕ) × (placeOfImage file k ≡ refusal 10)
-      go (inl f) = absurd (no-value 10 (f .0) (sym e ∙ count-holds (f .0) (f .1)))
-      go (inr b) = b
+      broken-where-refused : Comes 0 → (k : ℕ) × (placeOfImage file k ≡ refusal 10)
+      broken-where-refused (inl f) = absurd (no-value 10 (f .0) (sym e ∙ count-holds (f .0) (f .1)))
+      broken-where-refused (inr b) = b

@@ -12,7 +12,8 @@ use Rattle.image.specs.Tables.{tableOf, start, probeSequence}
 use Rattle.image.specs.Head.{tableAt, bucketNumber}
 use Rattle.image.proofs.Bools.{false-not-true}
 use Rattle.reader.specs.Lookup.{Lookup, nothing, Probe, pass, ends, hit, probeBucket, decide, searchAlong, searchTable, unsearched, lookupHash, lookup}
-use Rattle.consistency.specs.Matches.{Matches, matched, ended, addMatch, matchesAlong, matchesIn, matchesByHash, matchesOf, firstMatch, anyMatch, matchReads}
+use Rattle.consistency.specs.Matches.{Matches, matched, ended, addMatch, matchesAlong, matchesIn, matchesByHash, matchesOf, firstMatch}
+use Rattle.consistency.specs.Matches.{anyMatch, matchReads}
 use Rattle.reader.specs.Naming.{Naming, place, unnamed, naming}
 use Rattle.consistency.specs.Home.{homeBy, home}
 use Rattle.consistency.specs.theorems.Homes.{finds, homeByFirst, Homes}
@@ -57,13 +58,13 @@ finds-some id (ended r) e = absurd (false-not-true e)
 
 still-home : (image : List ℕ) (id : ℕ) → homeByFirst image id (naming image id) ≡ true → home image id ≡ true
 unfolding home
-still-home image id = go (naming image id)
+still-home image id = home-by-naming (naming image id)
   where
-    go : (p : Naming) → homeByFirst image id p ≡ true → homeBy image id p ≡ true
-    go (place s n) e =
+    home-by-naming : (p : Naming) → homeByFirst image id p ≡ true → homeBy image id p ≡ true
+    home-by-naming (place s n) e =
         let name = take n (drop s image) in
         finds-some id (matchesOf image name) (sym (ap (finds id) (lookup-first image name)) ∙ e)
-    go unnamed e = absurd (false-not-true e)
+    home-by-naming unnamed e = absurd (false-not-true e)
 
 -- ---- how many buckets the search reads
 

@@ -35,7 +35,8 @@ module _ (image name : List ℕ) (h o n : ℕ) where
   unfolding matchesAlong probeSequence
   none-left k r = refl
 
-  one-more : (m k r : ℕ) → matchesAlong look (probeSequence n (suc m) k) r ≡ addMatch (look k) (r + 1) (matchesAlong look (probeSequence n m (next n k)) (r + 1))
+  one-more : (m k r : ℕ)
+      → matchesAlong look (probeSequence n (suc m) k) r ≡ addMatch (look k) (r + 1) (matchesAlong look (probeSequence n m (next n k)) (r + 1))
   unfolding matchesAlong probeSequence
   one-more m k r = refl
 
@@ -74,7 +75,8 @@ pub matches-unread : (image name : List ℕ) (h id : ℕ) → unsearched image (
 unfolding matchesByHash
 matches-unread image name h id e = rw e
 
-pub matches-read : (image name : List ℕ) (h at n id : ℕ) → unsearched image (tableOf h) ≡ false → at ≡ tableAt image (tableOf h) → n ≡ bucketNumber image (tableOf h)
+pub matches-read : (image name : List ℕ) (h at n id : ℕ) → unsearched image (tableOf h) ≡ false → at ≡ tableAt image (tableOf h)
+    → n ≡ bucketNumber image (tableOf h)
     → anyMatch id (matchesIn image name h at n) ≡ anyMatch id (matchesByHash image name h)
 unfolding matchesByHash
 matches-read image name h at n id e ea en = rw e (ap (anyMatch id) (ap₂ (matchesIn image name h) ea en))

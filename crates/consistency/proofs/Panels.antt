@@ -9,6 +9,7 @@ use lib.Seq.{take-take}
 use Rattle.image.specs.Bytes.{same, all}
 use Rattle.image.specs.Head.{backSizeAt}
 use Rattle.image.specs.Zero.{hasZero, beforeZero}
+use Rattle.image.proofs.Bools.{chose-first, chose-second}
 use Rattle.image.proofs.AllOfRange.{all-true, all-step}
 use Rattle.image.proofs.Zeros.{before-front, before-short, before-free, before-longest, before-all, before-less, readings-same}
 use Rattle.reader.specs.Naming.{Naming, place, unnamed, noBack, naming}
@@ -42,18 +43,18 @@ module _ (image : List ℕ) (id : ℕ) where
 
     module _ (inside : s + n ≤ length image) (r : ℕ) (er : r ≡ length (beforeZero (take n (drop s image)))) where
       pub agree-step-same : r ≡ n → id + 1 ≡ cond (agreeOn image id) (id + 1) 0
-      agree-step-same h = go (hasZero (take n (drop s image))) refl
+      agree-step-same h = same-without-zero (hasZero (take n (drop s image))) refl
         where
-          go : (z : Bool) → hasZero (take n (drop s image)) ≡ z → id + 1 ≡ cond (agreeOn image id) (id + 1) 0
-          go true q = let less = before-less (take n (drop s image)) q in let long = name-long inside in absurd (omega arith)
-          go false q = ap (λ (t : Bool). cond t (id + 1) 0) (agree-named false (sym q))
+          same-without-zero : (z : Bool) → hasZero (take n (drop s image)) ≡ z → id + 1 ≡ cond (agreeOn image id) (id + 1) 0
+          same-without-zero true q = let less = before-less (take n (drop s image)) q in let long = name-long inside in absurd (omega arith)
+          same-without-zero false q = ap (λ (t : Bool). cond t (id + 1) 0) (agree-named false (sym q))
 
       pub agree-step-differs : (r ≡ n → ⊥) → 0 ≡ cond (agreeOn image id) (id + 1) 0
-      agree-step-differs h = go (hasZero (take n (drop s image))) refl
+      agree-step-differs h = differs-with-zero (hasZero (take n (drop s image))) refl
         where
-          go : (z : Bool) → hasZero (take n (drop s image)) ≡ z → 0 ≡ cond (agreeOn image id) (id + 1) 0
-          go true q = ap (λ (t : Bool). cond t (id + 1) 0) (agree-named true (sym q))
-          go false q = absurd (h (er ∙ before-all (take n (drop s image)) q ∙ name-long inside))
+          differs-with-zero : (z : Bool) → hasZero (take n (drop s image)) ≡ z → 0 ≡ cond (agreeOn image id) (id + 1) 0
+          differs-with-zero true q = ap (λ (t : Bool). cond t (id + 1) 0) (agree-named true (sym q))
+          differs-with-zero false q = absurd (h (er ∙ before-all (take n (drop s image)) q ∙ name-long inside))
 
   -- one that has none
   pub panel-unnamed : unnamed ≡ naming image id → unnamed ≡ panel image id
@@ -89,17 +90,17 @@ panel-reads = record { shown = shown }
 
 pub panel-inside : (image : List ℕ) (id s n : ℕ) → panel image id ≡ place s n → s + n ≤ length image
 unfolding panel
-panel-inside image id s n e = go (naming image id) refl e
+panel-inside image id s n e = inside-by-naming (naming image id) refl e
   where
-    go : (x : Naming) → naming image id ≡ x → cutAtZero image x ≡ place s n → s + n ≤ length image
-    go (place s′ n′) p q =
+    inside-by-naming : (x : Naming) → naming image id ≡ x → cutAtZero image x ≡ place s n → s + n ≤ length image
+    inside-by-naming (place s′ n′) p q =
         let inside = named image id s′ n′ p .inside in
         let cut = before-short (take n′ (drop s′ image)) in
         let took = length-take n′ (drop s′ image) in
         let same-start : s′ ≡ s = cc in
         let same-length : length (beforeZero (take n′ (drop s′ image))) ≡ n = cc in
         omega arith
-    go unnamed p q = never s n q
+    inside-by-naming unnamed p q = never s n q
 
 -- ---- the check, id by id
 
@@ -117,21 +118,18 @@ module _ (image : List ℕ) (n id : ℕ) (less : id < n) where
 
 -- a look at an id gives the next id exactly where both readings agree on it, else 0
 pub agree-step-zero : (b : Bool) (id next : ℕ) → next ≡ cond b (id + 1) 0 → next ≡ 0 → b ≡ false
-agree-step-zero true id next e h = absurd (omega arith)
-agree-step-zero false id next e h = refl
+agree-step-zero b id next e h = chose-second b (id + 1) 0 0 (λ z. omega arith) (sym e ∙ h) .0
 
 pub agree-step-nonzero : (b : Bool) (id next : ℕ) → next ≡ cond b (id + 1) 0 → (next ≡ 0 → ⊥) → b ≡ true
-agree-step-nonzero true id next e h = refl
-agree-step-nonzero false id next e h = absurd (h e)
+agree-step-nonzero b id next e h = chose-first b (id + 1) 0 next (λ z. h (sym z)) (sym e) .0
 
 pub agree-step-next : (b : Bool) (id next : ℕ) → next ≡ cond b (id + 1) 0 → (next ≡ 0 → ⊥) → next ≡ id + 1
-agree-step-next true id next e h = e
-agree-step-next false id next e h = absurd (h e)
+agree-step-next b id next e h = sym (chose-first b (id + 1) 0 next (λ z. h (sym z)) (sym e) .1)
 
 -- what the hint at id 0 leaves to look at
 pub agree-hinted : (image : List ℕ) (n : ℕ) → n ≡ upperHint image 0 → all (agreeOn image) 0 n ≡ readingsAgree image
 unfolding upperHint all readingsAgree
-agree-hinted image n e = go (noBack image) refl
+agree-hinted image n e = agree-by-array (noBack image) refl
   where
     none : noBack image ≡ true → n ≡ 0
     none h = e ∙ rw h refl
@@ -145,9 +143,9 @@ agree-hinted image n e = go (noBack image) refl
     full : all (agreeOn image) 0 (backSizeAt image) ≡ readingsAgree image
     full = refl
 
-    go : (b : Bool) → noBack image ≡ b → all (agreeOn image) 0 n ≡ readingsAgree image
-    go true h = ap (all (agreeOn image) 0) (none h) ∙ empty ∙ sym (agree-without image h)
-    go false h = ap (all (agreeOn image) 0) (some h) ∙ full
+    agree-by-array : (b : Bool) → noBack image ≡ b → all (agreeOn image) 0 n ≡ readingsAgree image
+    agree-by-array true h = ap (all (agreeOn image) 0) (none h) ∙ empty ∙ sym (agree-without image h)
+    agree-by-array false h = ap (all (agreeOn image) 0) (some h) ∙ full
 
 -- and nothing is left
 pub agree-none : (image : List ℕ) (id : ℕ) → all (agreeOn image) id 0 ≡ true

@@ -27,11 +27,11 @@ all-middle P (x ∷ xs) ys y all = all-middle P xs ys y (all .1)
 pub all-filter : {A : Type 0} (P : A → Type 0) (test : A → Bool) (xs : List A) → All P xs → All P (filter test xs)
 unfolding filter
 all-filter P test [] all = tt
-all-filter P test (x ∷ xs) all = go (test x) (all-filter P test xs (all .1))
+all-filter P test (x ∷ xs) all = all-with-first (test x) (all-filter P test xs (all .1))
   where
-    go : (t : Bool) → All P (filter test xs) → All P (cond t (x ∷ filter test xs) (filter test xs))
-    go true rest = (all .0, rest)
-    go false rest = rest
+    all-with-first : (t : Bool) → All P (filter test xs) → All P (cond t (x ∷ filter test xs) (filter test xs))
+    all-with-first true rest = (all .0, rest)
+    all-with-first false rest = rest
 
 -- of what a function makes of them
 pub all-image : {A B : Type 0} {P : A → Type 0} (Q : B → Type 0) (f : A → B) → ((x : A) → P x → Q (f x)) → (xs : List A) → All P xs → All Q (map f xs)

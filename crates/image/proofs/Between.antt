@@ -60,8 +60,13 @@ take-take-min (suc n) (suc m) (x ∷ l) h =
 word-take : (buf : List ℕ) (end o : ℕ) → o + 4 ≤ end → word (take end buf) o ≡ word buf o
 unfolding word
 word-take buf end o h =
-    omega
-    (arith, getD-take end buf o 0 (omega arith), getD-take end buf (o + 1) 0 (omega arith), getD-take end buf (o + 2) 0 (omega arith), getD-take end buf (o + 3) 0 (omega arith))
+    omega (
+      arith,
+      getD-take end buf o 0 (omega arith),
+      getD-take end buf (o + 1) 0 (omega arith),
+      getD-take end buf (o + 2) 0 (omega arith),
+      getD-take end buf (o + 3) 0 (omega arith),
+    )
 
 -- ---- what depends on the bytes before `end` alone
 
@@ -122,13 +127,13 @@ pub record Front (bytes : List ℕ) (n : ℕ) : Type 0 where
 
 pub front : (bytes : List ℕ) (n : ℕ) → n ≡ wholeLength bytes → (n ≡ 0 → ⊥) → Front bytes n
 unfolding wholeLength
-front bytes n e k = go (firstWhole bytes) refl e
+front bytes n e k = front-where-whole (firstWhole bytes) refl e
   where
-    go : (b : Bool) → firstWhole bytes ≡ b → n ≡ cond b (word bytes 4) 0 → Front bytes n
-    go true p q =
+    front-where-whole : (b : Bool) → firstWhole bytes ≡ b → n ≡ cond b (word bytes 4) 0 → Front bytes n
+    front-where-whole true p q =
         let w = whole-first bytes p in
         record { yes = p; is = sym q; some = omega arith; inside = omega arith }
-    go false p q = absurd (k q)
+    front-where-whole false p q = absurd (k q)
 
 -- a whole entry lies before the end, so its name can be read
 pub record EntryRoom (buf : List ℕ) (at end n : ℕ) : Type 0 where
@@ -144,11 +149,11 @@ entry-room buf at end n h k e nz =
 
 pub not-whole : (bytes : List ℕ) → 0 ≡ wholeLength bytes → firstWhole bytes ≡ false
 unfolding wholeLength
-not-whole bytes e = go (firstWhole bytes) refl e
+not-whole bytes e = none-where-whole (firstWhole bytes) refl e
   where
-    go : (b : Bool) → firstWhole bytes ≡ b → 0 ≡ cond b (word bytes 4) 0 → b ≡ false
-    go true p q = let w = whole-first bytes p in absurd (omega arith)
-    go false p q = refl
+    none-where-whole : (b : Bool) → firstWhole bytes ≡ b → 0 ≡ cond b (word bytes 4) 0 → b ≡ false
+    none-where-whole true p q = let w = whole-first bytes p in absurd (omega arith)
+    none-where-whole false p q = refl
 
 -- ---- the same, as code reads it in place: n is the length word
 

@@ -22,7 +22,8 @@ unfolding probeSequence
 probeSequence-step n left k h = let e : left ≡ suc (left - 1) = omega arith in ap (λ (m : ℕ). probeSequence n m k) e
 
 -- searches that see the same in each bucket find the same
-pub firstEmpty-ext : (f g : ℕ → ℕ) (n : ℕ) → ((k : ℕ) → k < n → f k ≡ g k) → (m k : ℕ) → k < n → firstEmpty f (probeSequence n m k) ≡ firstEmpty g (probeSequence n m k)
+pub firstEmpty-ext : (f g : ℕ → ℕ) (n : ℕ) → ((k : ℕ) → k < n → f k ≡ g k) → (m k : ℕ) → k < n
+    → firstEmpty f (probeSequence n m k) ≡ firstEmpty g (probeSequence n m k)
 unfolding firstEmpty probeSequence
 firstEmpty-ext f g n alike zero k h = refl
 firstEmpty-ext f g n alike (suc m) k h =
@@ -36,12 +37,12 @@ getD-empties (suc n) (suc k) = getD-empties n k
 -- what holds of the empty bucket and of every entry holds of every bucket of a filled table
 module _ (P : Bucket → Type 0) where
   set-all : (table : List Bucket) (i : ℕ) (b : Bucket) → ((k : ℕ) → P (getD table k empty)) → P b → (k : ℕ) → P (getD (set table i b) k empty)
-  set-all table i b all one k = go (ℕ-discrete k i) (decLt i (length table))
+  set-all table i b all one k = by-place (ℕ-discrete k i) (decLt i (length table))
     where
-      go : Dec (k ≡ i) → Dec (i < length table) → P (getD (set table i b) k empty)
-      go (no e) d = rw (getD-set-other table i k b empty e) (all k)
-      go (yes e) (yes h) = rw (e, getD-set-same table i b empty h) one
-      go (yes e) (no h) = let q : length table ≤ i = omega arith in rw (set-out table i b q) (all k)
+      by-place : Dec (k ≡ i) → Dec (i < length table) → P (getD (set table i b) k empty)
+      by-place (no e) d = rw (getD-set-other table i k b empty e) (all k)
+      by-place (yes e) (yes h) = rw (e, getD-set-same table i b empty h) one
+      by-place (yes e) (no h) = let q : length table ≤ i = omega arith in rw (set-out table i b q) (all k)
 
   insertAll-all : (n : ℕ) (table bs : List Bucket) → ((k : ℕ) → P (getD table k empty)) → All P bs → (k : ℕ) → P (getD (insertAll n table bs) k empty)
   unfolding insertAll insert

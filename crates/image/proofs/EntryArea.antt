@@ -24,11 +24,11 @@ pub bytes-drop : (n : ℕ) (l : List ℕ) → AllBytes l → AllBytes (drop n l)
 bytes-drop n l h i = rw (getD-drop n l i 0) (h (n + i))
 
 pub bytes-take : (n : ℕ) (l : List ℕ) → AllBytes l → AllBytes (take n l)
-bytes-take n l h i = go (decLt i n)
+bytes-take n l h i = taken-or-past (decLt i n)
   where
-    go : Dec (i < n) → getD (take n l) i 0 < 256
-    go (yes k) = rw (getD-take n l i 0 k) (h i)
-    go (no k) = rw (List·getD-eq-default (take n l) 0 {n = i} (omega (arith, length-take n l))) (omega arith)
+    taken-or-past : Dec (i < n) → getD (take n l) i 0 < 256
+    taken-or-past (yes k) = rw (getD-take n l i 0 k) (h i)
+    taken-or-past (no k) = rw (List·getD-eq-default (take n l) 0 {n = i} (omega (arith, length-take n l))) (omega arith)
 
 -- the word at the front, and what follows it
 pub front-word : (l : List ℕ) → AllBytes l → 4 ≤ length l → l ≡ le32 (word l 0) ++ drop 4 l

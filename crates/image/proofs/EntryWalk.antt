@@ -175,7 +175,8 @@ contains-step buf end entries sought at left so-far k a some m n name b f en eb 
     ∙ m
 
 -- no entry is left
-pub contains-end : (buf : List ℕ) (end entries : ℕ) (sought : List ℕ) (at left : ℕ) (so-far : Bool) → left ≡ 0 → ContainsRest buf end entries sought at left so-far
+pub contains-end : (buf : List ℕ) (end entries : ℕ) (sought : List ℕ) (at left : ℕ) (so-far : Bool) → left ≡ 0
+    → ContainsRest buf end entries sought at left so-far
     → so-far ≡ containsName sought (entriesIn entries (between buf 2072 end))
 unfolding containsName entriesIn
 contains-end buf end entries sought at left so-far z m =

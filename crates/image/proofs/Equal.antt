@@ -38,11 +38,11 @@ same-true (x ∷ xs) (y ∷ ys) e =
 
 -- it fails where the strings differ
 pub same-false : (xs ys : List ℕ) → (xs ≡ ys → ⊥) → same xs ys ≡ false
-same-false xs ys differ = go (same xs ys) refl
+same-false xs ys differ = never-same (same xs ys) refl
   where
-    go : (t : Bool) → same xs ys ≡ t → t ≡ false
-    go true e = absurd (differ (same-true xs ys e))
-    go false e = refl
+    never-same : (t : Bool) → same xs ys ≡ t → t ≡ false
+    never-same true e = absurd (differ (same-true xs ys e))
+    never-same false e = refl
 
 -- ---- step by step
 

@@ -65,11 +65,12 @@ module _ {A : Type 0} (test : A → Bool) where
   pub filter-append : (xs ys : List A) → filter test (xs ++ ys) ≡ filter test xs ++ filter test ys
   unfolding filter
   filter-append [] ys = refl
-  filter-append (x ∷ xs) ys = go (filter-append xs ys) (test x)
+  filter-append (x ∷ xs) ys = filter-with-first (filter-append xs ys) (test x)
     where
-      go : filter test (xs ++ ys) ≡ filter test xs ++ filter test ys → (b : Bool) → cond b (x ∷ filter test (xs ++ ys)) (filter test (xs ++ ys)) ≡ cond b (x ∷ filter test xs) (filter test xs) ++ filter test ys
-      go ih true = ap (λ (l : List A). x ∷ l) ih
-      go ih false = ih
+      filter-with-first : filter test (xs ++ ys) ≡ filter test xs ++ filter test ys → (b : Bool) → cond b (x ∷ filter test (xs ++ ys)) (filter test (xs ++ ys))
+          ≡ cond b (x ∷ filter test xs) (filter test xs) ++ filter test ys
+      filter-with-first ih true = ap (λ (l : List A). x ∷ l) ih
+      filter-with-first ih false = ih
 
 pub length-range : (s n : ℕ) → length (range s n) ≡ n
 unfolding range

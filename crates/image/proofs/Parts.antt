@@ -88,8 +88,14 @@ module _ (mode : Mode) (es : List Entry) where
     where
       sum : length H + length R + length E + length T ≡ entriesEnd es + 16 * length es
       sum =
-          omega
-          (arith, length-headWords mode es, length-tableRows (entriesEnd es) (placedIn es), length-entries es, length-tables (placedIn es), length-placed headSize es)
+          omega (
+            arith,
+            length-headWords mode es,
+            length-tableRows (entriesEnd es) (placedIn es),
+            length-entries es,
+            length-tables (placedIn es),
+            length-placed headSize es,
+          )
 
 -- ---- how far the tables go
 
@@ -119,11 +125,11 @@ module _ {img : List ℕ} (end : ℕ) (ps : List Placed) (rows : At img 24 (tabl
 
   offset-below : (t : ℕ) → t < 256 → tableOffset end ps t < 2 ^ 32
   unfolding tableOffset
-  offset-below t h = go (eqb (count t ps) 0)
+  offset-below t h = below-either-way (eqb (count t ps) 0)
     where
-      go : (b : Bool) → cond b 0 (end + 16 * entriesBefore t ps) < 2 ^ 32
-      go true = omega arith
-      go false = omega (arith, before-most ps t h)
+      below-either-way : (b : Bool) → cond b 0 (end + 16 * entriesBefore t ps) < 2 ^ 32
+      below-either-way true = omega arith
+      below-either-way false = omega (arith, before-most ps t h)
 
   pub offset-word : (t : ℕ) → t < 256 → word img (24 + 8 * t) ≡ tableOffset end ps t
   unfolding tableRow

@@ -12,7 +12,8 @@ use Rattle.jhash.specs.NameHash.{hashOf}
 use Rattle.image.specs.Bytes.{le32, cat, filter, range}
 use Rattle.image.specs.Tables.{Bucket, empty, tableOf, insert, insertAll, filled}
 use Rattle.image.specs.Image.{Entry, Placed, headSize, entryBytes, entrySize, entriesSize, placed, inTable, ofTable, count, bucketOf, bucketBytes}
-use Rattle.image.specs.Image.{table, tableBytes, entriesBefore, tableRow, tableRows, tables, backWord, backWords, backIn, backSizeOf, imageSize, headBytes, headWords, flagWord, backOffset, image}
+use Rattle.image.specs.Image.{table, tableBytes, entriesBefore, tableRow, tableRows, tables, backWord, backWords, backIn, backSizeOf}
+use Rattle.image.specs.Image.{imageSize, headBytes, headWords, flagWord, backOffset, image}
 use Rattle.image.specs.declared.Mode.{Mode}
 use Rattle.image.specs.declared.Mode.the-variants.{Twoway, Oneway}
 use Rattle.image.proofs.Words.{length-le32}
@@ -96,11 +97,11 @@ count-nil t = refl
 
 pub count-cons : (t : ℕ) (p : Placed) (ps : List Placed) → count t (p ∷ ps) ≡ cond (inTable t p) 1 0 + count t ps
 unfolding ofTable filter
-count-cons t p ps = go (inTable t p)
+count-cons t p ps = length-with-first (inTable t p)
   where
-    go : (b : Bool) → length (cond b (p ∷ filter (inTable t) ps) (filter (inTable t) ps)) ≡ cond b 1 0 + length (filter (inTable t) ps)
-    go true = omega arith
-    go false = omega arith
+    length-with-first : (b : Bool) → length (cond b (p ∷ filter (inTable t) ps) (filter (inTable t) ps)) ≡ cond b 1 0 + length (filter (inTable t) ps)
+    length-with-first true = omega arith
+    length-with-first false = omega arith
 
 pub ofTable-append : (t : ℕ) (ps qs : List Placed) → ofTable t (ps ++ qs) ≡ ofTable t ps ++ ofTable t qs
 unfolding ofTable
@@ -123,24 +124,24 @@ pub before-cons : (t : ℕ) (p : Placed) (ps : List Placed)
 unfolding entriesBefore
 before-cons zero p ps = rw (le-ltb (tableOf (hashOf (p .entry .name))) 0 (omega arith))
 before-cons (suc t) p ps =
-    go (ltb x t) refl (eqb x t) refl (before-cons t p ps) (count-cons t p ps)
+    before-next-table (ltb x t) refl (eqb x t) refl (before-cons t p ps) (count-cons t p ps)
   where
     x : ℕ
     x = tableOf (hashOf (p .entry .name))
 
-    go : (b : Bool) → ltb x t ≡ b → (e : Bool) → eqb x t ≡ e
+    before-next-table : (b : Bool) → ltb x t ≡ b → (e : Bool) → eqb x t ≡ e
         → entriesBefore t (p ∷ ps) ≡ cond (ltb x t) 1 0 + entriesBefore t ps → count t (p ∷ ps) ≡ cond (eqb x t) 1 0 + count t ps
         → entriesBefore t (p ∷ ps) + count t (p ∷ ps) ≡ cond (ltb x (suc t)) 1 0 + (entriesBefore t ps + count t ps)
-    go true h true k i j = let z = ltb-true x t h in let y = eqb-true x t k in absurd (omega arith)
-    go true h false k i j =
+    before-next-table true h true k i j = let z = ltb-true x t h in let y = eqb-true x t k in absurd (omega arith)
+    before-next-table true h false k i j =
         let z = ltb-true x t h in
         let w : ltb x (suc t) ≡ true = lt-ltb x (suc t) (omega arith) in
         rw w (omega (arith, rw h at i, rw k at j))
-    go false h true k i j =
+    before-next-table false h true k i j =
         let y = eqb-true x t k in
         let w : ltb x (suc t) ≡ true = lt-ltb x (suc t) (omega arith) in
         rw w (omega (arith, rw h at i, rw k at j))
-    go false h false k i j =
+    before-next-table false h false k i j =
         let z = ltb-false x t h in
         let y = eqb-false x t k in
         let ne : (x ≡ t) → ⊥ = y in
@@ -172,7 +173,8 @@ length-tables-to zero ps = refl
 length-tables-to (suc t) ps =
     let h = length-tables-to t ps in
     let k = tables-one t ps in
-    let e : length (cat (tableBytes ps) (range 0 t ++ ((0 + t) ∷ []))) ≡ length (cat (tableBytes ps) (range 0 t)) + length (cat (tableBytes ps) ((0 + t) ∷ [])) =
+    let e : length (cat (tableBytes ps) (range 0 t ++ ((0 + t) ∷ [])))
+    ≡ length (cat (tableBytes ps) (range 0 t)) + length (cat (tableBytes ps) ((0 + t) ∷ [])) =
     ap length (cat-append (tableBytes ps) (range 0 t) ((0 + t) ∷ []))
     ∙ length-append (cat (tableBytes ps) (range 0 t)) (cat (tableBytes ps) ((0 + t) ∷ [])) in
     ap (λ (l : List ℕ). length (cat (tableBytes ps) l)) (range-more 0 t) ∙ e ∙ sum _ _ _ _ h k
@@ -213,8 +215,15 @@ unfolding image
 length-image mode es =
     let ps = placed headSize es in
     simp length-append
-    (omega
-    (arith, length-headWords mode es, length-tableRows (headSize + entriesSize es) ps, length-entries es, length-tables ps, length-placed headSize es, length-backWords ps (backSizeOf mode es)))
+    (omega (
+      arith,
+      length-headWords mode es,
+      length-tableRows (headSize + entriesSize es) ps,
+      length-entries es,
+      length-tables ps,
+      length-placed headSize es,
+      length-backWords ps (backSizeOf mode es),
+    ))
 
 -- the back size in an image is that of its mode
 pub backIn-twice : (mode : Mode) (n : ℕ) → backIn mode (backIn mode n) ≡ backIn mode n

@@ -3,7 +3,7 @@ use Prim.Native.Nat.{ℕ, zero, suc, _+_, _-_, _≤_, _<_}
 use native.Mathlib.Omega.{arith}
 use native.Mathlib.Numerals.{add-one}
 use mathlib.Core.Path.{_≡_, refl, sym, ap, ap₂, _∙_}
-use mathlib.Core.Bool.{Bool, true, false, not, cond, _&&_, _||_}
+use mathlib.Core.Bool.{Bool, true, false, not, cond, _&&_, _||_, or-assoc}
 use mathlib.Core.List.{List, [], _∷_, _++_}
 use borrow.Author.Tests.{lt-ltb, le-ltb, eq-eqb, ne-eqb}
 use lib.Dec.{eqb, ltb}
@@ -39,11 +39,7 @@ module _ (s : List ℕ) (i j : ℕ) (e : i + 1 ≡ j) (p : i < length s) where
 zero-append : (a b : List ℕ) → hasZero (a ++ b) ≡ (hasZero a || hasZero b)
 unfolding hasZero
 zero-append [] b = refl
-zero-append (x ∷ a) b = go (eqb x 0) (zero-append a b)
-  where
-    go : (t : Bool) → hasZero (a ++ b) ≡ (hasZero a || hasZero b) → (t || hasZero (a ++ b)) ≡ ((t || hasZero a) || hasZero b)
-    go true e = refl
-    go false e = e
+zero-append (x ∷ a) b = ap (λ (t : Bool). eqb x 0 || t) (zero-append a b) ∙ sym (or-assoc (eqb x 0) (hasZero a) (hasZero b))
 
 -- the first k bytes and the others
 zero-parts : (s : List ℕ) (k : ℕ) → hasZero s ≡ (hasZero (take k s) || hasZero (drop k s))
@@ -106,22 +102,23 @@ none-in-first s k h = sym (zero-parts s k ∙ ap (λ (t : Bool). t || hasZero (d
 
 -- a zero byte of the first k bytes, or of the k bytes at j, is one of all
 pub zero-at-an-end : (s : List ℕ) (k j : ℕ) (a b : Bool) → a ≡ hasZero (take k s) → b ≡ hasZero (take k (drop j s)) → (a || b) ≡ true → true ≡ hasZero s
-zero-at-an-end s k j a b ea eb h = sym (go a ea h)
+zero-at-an-end s k j a b ea eb h = sym (zero-at-either a ea h)
   where
     later : (x : Bool) → (x || true) ≡ true
     later true = refl
     later false = refl
 
-    go : (t : Bool) → t ≡ hasZero (take k s) → (t || b) ≡ true → hasZero s ≡ true
-    go true e h = zero-parts s k ∙ ap (λ (x : Bool). x || hasZero (drop k s)) (sym e)
-    go false e h =
+    zero-at-either : (t : Bool) → t ≡ hasZero (take k s) → (t || b) ≡ true → hasZero s ≡ true
+    zero-at-either true e h = zero-parts s k ∙ ap (λ (x : Bool). x || hasZero (drop k s)) (sym e)
+    zero-at-either false e h =
         zero-parts s j
         ∙ ap (λ (x : Bool). hasZero (take j s) || x) (zero-in-front s j k (sym eb ∙ h))
         ∙ later (hasZero (take j s))
 
 -- where the question is left to the bytes from i on, it may be left to more bytes: those from j on
 pub zero-overlap : (s : List ℕ) (j i : ℕ) → j ≤ i → hasZero (drop i s) ≡ hasZero s → hasZero (drop j s) ≡ hasZero s
-zero-overlap s j i p h = go (hasZero (take j s)) (hasZero (drop j s)) (hasZero (take (i - j) (drop j s))) (hasZero (drop i s)) (hasZero s) h (zero-parts s j) part
+zero-overlap s j i p h =
+    rest-decides (hasZero (take j s)) (hasZero (drop j s)) (hasZero (take (i - j) (drop j s))) (hasZero (drop i s)) (hasZero s) h (zero-parts s j) part
   where
     e : j + (i - j) ≡ i
     e = omega arith
@@ -129,25 +126,25 @@ zero-overlap s j i p h = go (hasZero (take j s)) (hasZero (drop j s)) (hasZero (
     part : hasZero (drop j s) ≡ (hasZero (take (i - j) (drop j s)) || hasZero (drop i s))
     part = zero-split s j (i - j) ∙ ap (λ (k : ℕ). hasZero (take (i - j) (drop j s)) || hasZero (drop k s)) e
 
-    go : (a b c d t : Bool) → d ≡ t → t ≡ (a || b) → b ≡ (c || d) → b ≡ t
-    go a true c d true ed et eb = refl
-    go a false c d false ed et eb = refl
-    go true true c d false ed et eb = absurd (false-not-true et)
-    go false true c d false ed et eb = absurd (false-not-true et)
-    go a false true d true ed et eb = absurd (false-not-true eb)
-    go a false false d true ed et eb = absurd (false-not-true (eb ∙ ed))
+    rest-decides : (a b c d t : Bool) → d ≡ t → t ≡ (a || b) → b ≡ (c || d) → b ≡ t
+    rest-decides a true c d true ed et eb = refl
+    rest-decides a false c d false ed et eb = refl
+    rest-decides true true c d false ed et eb = absurd (false-not-true et)
+    rest-decides false true c d false ed et eb = absurd (false-not-true et)
+    rest-decides a false true d true ed et eb = absurd (false-not-true eb)
+    rest-decides a false false d true ed et eb = absurd (false-not-true (eb ∙ ed))
 
 -- a name of k to 2 k bytes: its first k and its last k
 pub zero-ends : (s : List ℕ) (k : ℕ) (a b : Bool) → k ≤ length s → length s ≤ k + k → a ≡ hasZero (take k s) → b ≡ hasZero (take k (drop (length s - k) s))
     → (a || b) ≡ hasZero s
-zero-ends s k a b p q ea eb = go a ea
+zero-ends s k a b p q ea eb = either-decides a ea
   where
     parts : (t : Bool) → t ≡ hasZero (take k s) → hasZero s ≡ (t || hasZero (drop k s))
     parts t e = zero-parts s k ∙ ap (λ (x : Bool). x || hasZero (drop k s)) (sym e)
 
-    go : (t : Bool) → t ≡ hasZero (take k s) → (t || b) ≡ hasZero s
-    go true e = sym (parts true e)
-    go false e = eb ∙ zero-last s k p ∙ zero-overlap s (length s - k) k (omega arith) (sym (parts false e))
+    either-decides : (t : Bool) → t ≡ hasZero (take k s) → (t || b) ≡ hasZero s
+    either-decides true e = sym (parts true e)
+    either-decides false e = eb ∙ zero-last s k p ∙ zero-overlap s (length s - k) k (omega arith) (sym (parts false e))
 
 -- nothing is left to precede a zero byte
 pub before-none : (s : List ℕ) (i : ℕ) → length s ≤ i → length (beforeZero (drop i s)) ≡ 0
@@ -158,77 +155,77 @@ before-none s i h = rw (drop-of-length-le s {i = i} h)
 pub before-front : (s : List ℕ) → beforeZero s ≡ take (length (beforeZero s)) s
 unfolding beforeZero
 before-front [] = refl
-before-front (x ∷ xs) = go (eqb x 0) (before-front xs)
+before-front (x ∷ xs) = front-with-first (eqb x 0) (before-front xs)
   where
-    go : (t : Bool) → beforeZero xs ≡ take (length (beforeZero xs)) xs
+    front-with-first : (t : Bool) → beforeZero xs ≡ take (length (beforeZero xs)) xs
         → cond t [] (x ∷ beforeZero xs) ≡ take (length (cond t [] (x ∷ beforeZero xs))) (x ∷ xs)
-    go true rest = refl
-    go false rest = ap (λ (l : List ℕ). x ∷ l) rest
+    front-with-first true rest = refl
+    front-with-first false rest = ap (λ (l : List ℕ). x ∷ l) rest
 
 pub before-short : (s : List ℕ) → length (beforeZero s) ≤ length s
 unfolding beforeZero
 before-short [] = omega arith
-before-short (x ∷ xs) = go (eqb x 0) (before-short xs)
+before-short (x ∷ xs) = short-with-first (eqb x 0) (before-short xs)
   where
-    go : (t : Bool) → length (beforeZero xs) ≤ length xs → length (cond t [] (x ∷ beforeZero xs)) ≤ length (x ∷ xs)
-    go true rest = omega arith
-    go false rest = omega arith
+    short-with-first : (t : Bool) → length (beforeZero xs) ≤ length xs → length (cond t [] (x ∷ beforeZero xs)) ≤ length (x ∷ xs)
+    short-with-first true rest = omega arith
+    short-with-first false rest = omega arith
 
 pub before-free : (s : List ℕ) → hasZero (beforeZero s) ≡ false
 unfolding beforeZero hasZero
 before-free [] = refl
-before-free (x ∷ xs) = go (eqb x 0) refl (before-free xs)
+before-free (x ∷ xs) = free-with-first (eqb x 0) refl (before-free xs)
   where
-    go : (t : Bool) → eqb x 0 ≡ t → hasZero (beforeZero xs) ≡ false → hasZero (cond t [] (x ∷ beforeZero xs)) ≡ false
-    go true e rest = refl
-    go false e rest = ap (λ (b : Bool). b || hasZero (beforeZero xs)) e ∙ rest
+    free-with-first : (t : Bool) → eqb x 0 ≡ t → hasZero (beforeZero xs) ≡ false → hasZero (cond t [] (x ∷ beforeZero xs)) ≡ false
+    free-with-first true e rest = refl
+    free-with-first false e rest = ap (λ (b : Bool). b || hasZero (beforeZero xs)) e ∙ rest
 
 pub before-longest : (s : List ℕ) (k : ℕ) → k ≤ length s → hasZero (take k s) ≡ false → k ≤ length (beforeZero s)
 unfolding beforeZero hasZero
 before-longest s zero p h = omega arith
 before-longest [] (suc k) p h = absurd (omega arith)
-before-longest (x ∷ xs) (suc k) p h = go (eqb x 0) h (before-longest xs k (omega arith))
+before-longest (x ∷ xs) (suc k) p h = longest-with-first (eqb x 0) h (before-longest xs k (omega arith))
   where
-    go : (t : Bool) → (t || hasZero (take k xs)) ≡ false → (hasZero (take k xs) ≡ false → k ≤ length (beforeZero xs))
+    longest-with-first : (t : Bool) → (t || hasZero (take k xs)) ≡ false → (hasZero (take k xs) ≡ false → k ≤ length (beforeZero xs))
         → suc k ≤ length (cond t [] (x ∷ beforeZero xs))
-    go true e rest = absurd (false-not-true (sym e))
-    go false e rest = let l = rest e in omega arith
+    longest-with-first true e rest = absurd (false-not-true (sym e))
+    longest-with-first false e rest = let l = rest e in omega arith
 
 -- both readings of a name agree exactly where it has no zero byte
 pub readings-same : (s : List ℕ) → same (beforeZero s) s ≡ not (hasZero s)
 unfolding beforeZero hasZero same
 readings-same [] = refl
-readings-same (x ∷ xs) = go (eqb x 0) (readings-same xs)
+readings-same (x ∷ xs) = same-with-first (eqb x 0) (readings-same xs)
   where
-    go : (t : Bool) → same (beforeZero xs) xs ≡ not (hasZero xs) → same (cond t [] (x ∷ beforeZero xs)) (x ∷ xs) ≡ not (t || hasZero xs)
-    go true rest = refl
-    go false rest = ap (λ (b : Bool). b && same (beforeZero xs) xs) (eq-eqb x x refl) ∙ rest
+    same-with-first : (t : Bool) → same (beforeZero xs) xs ≡ not (hasZero xs) → same (cond t [] (x ∷ beforeZero xs)) (x ∷ xs) ≡ not (t || hasZero xs)
+    same-with-first true rest = refl
+    same-with-first false rest = ap (λ (b : Bool). b && same (beforeZero xs) xs) (eq-eqb x x refl) ∙ rest
 
 -- it is as long as the name exactly where the name has none
 pub before-all : (s : List ℕ) → hasZero s ≡ false → length (beforeZero s) ≡ length s
 unfolding beforeZero hasZero
 before-all [] h = refl
-before-all (x ∷ xs) h = go (eqb x 0) h (before-all xs)
+before-all (x ∷ xs) h = all-with-first (eqb x 0) h (before-all xs)
   where
-    go : (t : Bool) → (t || hasZero xs) ≡ false → (hasZero xs ≡ false → length (beforeZero xs) ≡ length xs)
+    all-with-first : (t : Bool) → (t || hasZero xs) ≡ false → (hasZero xs ≡ false → length (beforeZero xs) ≡ length xs)
         → length (cond t [] (x ∷ beforeZero xs)) ≡ length (x ∷ xs)
-    go true e rest = absurd (false-not-true (sym e))
-    go false e rest = ap suc (rest e)
+    all-with-first true e rest = absurd (false-not-true (sym e))
+    all-with-first false e rest = ap suc (rest e)
 
 pub before-less : (s : List ℕ) → hasZero s ≡ true → length (beforeZero s) < length s
 unfolding beforeZero hasZero
 before-less [] h = absurd (false-not-true h)
-before-less (x ∷ xs) h = go (eqb x 0) h (before-less xs)
+before-less (x ∷ xs) h = less-with-first (eqb x 0) h (before-less xs)
   where
-    go : (t : Bool) → (t || hasZero xs) ≡ true → (hasZero xs ≡ true → length (beforeZero xs) < length xs)
+    less-with-first : (t : Bool) → (t || hasZero xs) ≡ true → (hasZero xs ≡ true → length (beforeZero xs) < length xs)
         → length (cond t [] (x ∷ beforeZero xs)) < length (x ∷ xs)
-    go true e rest = omega arith
-    go false e rest = let l = rest e in omega arith
+    less-with-first true e rest = omega arith
+    less-with-first false e rest = let l = rest e in omega arith
 
 -- it is shorter exactly where there is one
 pub before-test : (s : List ℕ) → ltb (length (beforeZero s)) (length s) ≡ hasZero s
-before-test s = go (hasZero s) refl
+before-test s = by-zero-byte (hasZero s) refl
   where
-    go : (t : Bool) → hasZero s ≡ t → ltb (length (beforeZero s)) (length s) ≡ hasZero s
-    go true e = lt-ltb (length (beforeZero s)) (length s) (before-less s e) ∙ sym e
-    go false e = le-ltb (length (beforeZero s)) (length s) (omega (arith, before-all s e)) ∙ sym e
+    by-zero-byte : (t : Bool) → hasZero s ≡ t → ltb (length (beforeZero s)) (length s) ≡ hasZero s
+    by-zero-byte true e = lt-ltb (length (beforeZero s)) (length s) (before-less s e) ∙ sym e
+    by-zero-byte false e = le-ltb (length (beforeZero s)) (length s) (omega (arith, before-all s e)) ∙ sym e

@@ -68,13 +68,13 @@ module _ (mode : Mode) (repeats : Repeats) (n : ℕ) (es : List Entry) (s : Stat
   none-changes (close ∷ cs) h =
       let same : es ++ [] ≡ es = append-nil es in
       ap (λ (x : State). after x cs) closed ∙ none-changes cs (ap (λ (l : List Entry). acceptedFrom mode repeats n l cs) (sym same) ∙ h)
-  none-changes (put e ∷ cs) h = go (eqb (putDue mode repeats n es e) 0) refl h (none-changes cs)
+  none-changes (put e ∷ cs) h = put-changes-none (eqb (putDue mode repeats n es e) 0) refl h (none-changes cs)
     where
-      go : (b : Bool) → eqb (putDue mode repeats n es e) 0 ≡ b → acceptedFrom mode repeats n (es ++ cond b (e ∷ []) []) cs ≡ es
+      put-changes-none : (b : Bool) → eqb (putDue mode repeats n es e) 0 ≡ b → acceptedFrom mode repeats n (es ++ cond b (e ∷ []) []) cs ≡ es
           → (acceptedFrom mode repeats n es cs ≡ es → after s cs ≡ s) → after (afterPut s e) cs ≡ s
-      go true d k rest =
+      put-changes-none true d k rest =
           absurd (omega (arith, accepted-grows mode repeats n (es ++ (e ∷ [])) cs, length-append es (e ∷ []), ap length k))
-      go false d k rest = rw (put-due mode repeats n es s w e, d) (rest (rw (append-nil es) at k))
+      put-changes-none false d k rest = rw (put-due mode repeats n es s w e, d) (rest (rw (append-nil es) at k))
 
 module _ (repeats : Repeats) (buffer : List ℕ) (cs more : List Call) (room : headSize ≤ length buffer) where
   -- record and buffer after the close

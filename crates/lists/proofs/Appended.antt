@@ -41,11 +41,11 @@ backSize-snoc (x ∷ es) e = omega (arith, backSize-snoc es e)
 
 pub count-within : (t : ℕ) (ps : List Placed) → count t ps ≤ length ps
 count-within t [] = omega (arith, count-nil t)
-count-within t (p ∷ ps) = go (inTable t p) (count-within t ps) (count-cons t p ps)
+count-within t (p ∷ ps) = within-with-first (inTable t p) (count-within t ps) (count-cons t p ps)
   where
-    go : (b : Bool) → count t ps ≤ length ps → count t (p ∷ ps) ≡ cond b 1 0 + count t ps → count t (p ∷ ps) ≤ length (p ∷ ps)
-    go true h e = omega arith
-    go false h e = omega arith
+    within-with-first : (b : Bool) → count t ps ≤ length ps → count t (p ∷ ps) ≡ cond b 1 0 + count t ps → count t (p ∷ ps) ≤ length (p ∷ ps)
+    within-with-first true h e = omega arith
+    within-with-first false h e = omega arith
 
 -- the entry's own table has one more, every other as many as before
 module _ (t o : ℕ) (es : List Entry) (e : Entry) where

@@ -49,14 +49,14 @@ module _ (i k : ℕ) where
   unfolding ofIt lastFrom filter placed entriesSize
   last-small d o [] h room = h
   last-small d o (e ∷ es) h room =
-      go (eqb (e .id) i) (last-small d (o + entrySize e) es h (omega arith)) (last-small o (o + entrySize e) es (omega arith) (omega arith))
+      small-with-first (eqb (e .id) i) (last-small d (o + entrySize e) es h (omega arith)) (last-small o (o + entrySize e) es (omega arith) (omega arith))
     where
       rest : List Placed
       rest = ofIt (o + entrySize e) es
 
-      go : (b : Bool) → lastFrom d rest < k → lastFrom o rest < k → lastFrom d (cond b (record { entry = e; at = o } ∷ rest) rest) < k
-      go true p q = q
-      go false p q = p
+      small-with-first : (b : Bool) → lastFrom d rest < k → lastFrom o rest < k → lastFrom d (cond b (record { entry = e; at = o } ∷ rest) rest) < k
+      small-with-first true p q = q
+      small-with-first false p q = p
 
 module _ (mode : Mode) (es : List Entry) (small : imageSize mode es ≤ 4294967295) where
   link-small : (i : ℕ) → backWord (placed headSize es) i < 2 ^ 32
@@ -134,7 +134,8 @@ module _ (r : ListRow) (c : Computed r) where
 -- ---- the rows
 
 computed : (repeats : Repeats) → Each Computed (exampleRows repeats)
-unfolding accepted acceptedFrom due dueFrom putDue hasZero containsName sizeOf putsSize backSize entriesSize backOffset placed placedOfId ofId filter backWord lastFrom range ofName same
+unfolding accepted acceptedFrom due dueFrom putDue hasZero containsName sizeOf putsSize backSize entriesSize backOffset placed placedOfId ofId filter backWord
+    lastFrom range ofName same
 computed repeats = (
   (lit≤ tt, tt, refl, refl, refl, refl, refl, (refl, tt), ((refl, refl), tt)),
   (
@@ -163,7 +164,8 @@ computed repeats = (
 
 -- C6, and C6 without the repeats mode
 computed-named : Each Computed namedRows
-unfolding accepted acceptedFrom due dueFrom putDue hasZero containsName sizeOf putsSize backSize entriesSize backOffset placed placedOfId ofId filter backWord lastFrom range ofName same
+unfolding accepted acceptedFrom due dueFrom putDue hasZero containsName sizeOf putsSize backSize entriesSize backOffset placed placedOfId ofId filter backWord
+    lastFrom range ofName same
 computed-named = (
   (lit≤ tt, (tt, (tt, tt)), refl, refl, refl, refl, refl, (refl, tt), ((refl, refl), ((refl, refl), tt))),
   (

@@ -25,6 +25,7 @@ use Rattle.writer.specs.Put.{backAfter, writerAfterEntry, putRefusal, appended,
 use Rattle.writer.specs.Close.{recorded, consistent}
 use Rattle.lists.specs.Calls.{put, sizeOf, putDue, acceptedAfter, WordId}
 use Rattle.lists.proofs.ListWritten.{Written}
+use Rattle.image.proofs.Bools.{or-false-first, or-false-second, chose-second}
 use Rattle.image.proofs.Lists.{cat-append}
 use Rattle.image.proofs.Sizes.{length-entryBytes, length-entries, backIn-twice}
 use Rattle.lists.proofs.Appended.{entriesSize-snoc, backSize-snoc, sizeOf-is, count-same, count-other}
@@ -90,68 +91,54 @@ stored-after o E l area vs size stands capacity =
 -- neither limit
 pub due-free : (mode : Mode) (repeats : Repeats) (n : ℕ) (es : List Entry) (e : Entry) → putDue mode repeats n es e ≡ 0 → hasZero (e .name) ≡ false
 unfolding putDue
-due-free mode repeats n es e due = go (hasZero (e .name)) refl _ due
-  where
-    go : (z : Bool) → hasZero (e .name) ≡ z → (rest : ℕ) → _≡_ {A = ℕ} (cond z 13 rest) 0 → hasZero (e .name) ≡ false
-    go true p rest d = absurd (omega arith)
-    go false p rest d = p
+due-free mode repeats n es e due = chose-second {A = ℕ} (hasZero (e .name)) 13 _ 0 (λ z. omega arith) due .0
 
 pub due-new : (mode : Mode) (repeats : Repeats) (n : ℕ) (es : List Entry) (e : Entry) → putDue mode repeats n es e ≡ 0
     → (containsName (e .name) es && refusesRepeats repeats) ≡ false
 unfolding putDue
-due-new mode repeats n es e due = go (hasZero (e .name)) (containsName (e .name) es && refusesRepeats repeats) refl _ due
-  where
-    held : Bool
-    held = containsName (e .name) es && refusesRepeats repeats
-
-    go : (z b : Bool) → held ≡ b → (rest : ℕ) → _≡_ {A = ℕ} (cond z 13 (cond b 16 rest)) 0 → held ≡ false
-    go true b p rest d = absurd (omega arith)
-    go false true p rest d = absurd (omega arith)
-    go false false p rest d = p
+due-new mode repeats n es e due =
+    let free = chose-second {A = ℕ} (hasZero (e .name)) 13 _ 0 (λ z. omega arith) due in
+    chose-second {A = ℕ} (containsName (e .name) es && refusesRepeats repeats) 16 _ 0 (λ z. omega arith) (free .1) .0
 
 pub due-room : (mode : Mode) (repeats : Repeats) (n : ℕ) (es : List Entry) (e : Entry) → putDue mode repeats n es e ≡ 0
     → (imageSize mode (es ++ (e ∷ [])) ≤ n) × (imageSize mode (es ++ (e ∷ [])) ≤ 4294967295)
 unfolding putDue
-due-room mode repeats n es e due = go (hasZero (e .name)) (containsName (e .name) es && refusesRepeats repeats) (ltb n size) refl (ltb 4294967295 size) refl due
-  where
-    size : ℕ
-    size = sizeOf mode (es ++ (e ∷ []))
-
-    go : (z h a : Bool) → ltb n size ≡ a → (b : Bool) → ltb 4294967295 size ≡ b → _≡_ {A = ℕ} (cond z 13 (cond h 16 (cond (a || b) 3 0))) 0
-        → (imageSize mode (es ++ (e ∷ [])) ≤ n) × (imageSize mode (es ++ (e ∷ [])) ≤ 4294967295)
-    go true h a p b q d = absurd (omega arith)
-    go false true a p b q d = absurd (omega arith)
-    go false false true p b q d = absurd (omega arith)
-    go false false false p true q d = absurd (omega arith)
-    go false false false p false q d =
-        let is = sizeOf-is mode (es ++ (e ∷ [])) in
-        (omega (arith, ltb-false n size p), omega (arith, ltb-false 4294967295 size q))
+due-room mode repeats n es e due =
+    let size = sizeOf mode (es ++ (e ∷ [])) in
+    let free = chose-second {A = ℕ} (hasZero (e .name)) 13 _ 0 (λ z. omega arith) due in
+    let new = chose-second {A = ℕ} (containsName (e .name) es && refusesRepeats repeats) 16 _ 0 (λ z. omega arith) (free .1) in
+    let fit = chose-second {A = ℕ} (ltb n size || ltb 4294967295 size) 3 0 0 (λ z. omega arith) (new .1) in
+    let in-buffer = ltb-false n size (or-false-first (ltb n size) (ltb 4294967295 size) (fit .0)) in
+    let in-word = ltb-false 4294967295 size (or-false-second (ltb n size) (ltb 4294967295 size) (fit .0)) in
+    let is = sizeOf-is mode (es ++ (e ∷ [])) in
+    (omega arith, omega arith)
 
 -- what is accepted with repeats off is accepted with either choice
 pub due-either : (mode : Mode) (n : ℕ) (es : List Entry) (e : Entry) → putDue mode Off n es e ≡ 0 → (repeats : Repeats) → putDue mode repeats n es e ≡ 0
 unfolding putDue
 due-either mode n es e due Off = due
-due-either mode n es e due On = go (hasZero (e .name)) (containsName (e .name) es) _ due
+due-either mode n es e due On = due-without-names (hasZero (e .name)) (containsName (e .name) es) _ due
   where
-    go : (z h : Bool) (rest : ℕ) → _≡_ {A = ℕ} (cond z 13 (cond (h && true) 16 rest)) 0 → _≡_ {A = ℕ} (cond z 13 (cond (h && false) 16 rest)) 0
-    go true h rest d = d
-    go false true rest d = absurd (omega arith)
-    go false false rest d = d
+    due-without-names : (z h : Bool) (rest : ℕ) → _≡_ {A = ℕ} (cond z 13 (cond (h && true) 16 rest)) 0 → _≡_ {A = ℕ} (cond z 13 (cond (h && false) 16 rest)) 0
+    due-without-names true h rest d = d
+    due-without-names false true rest d = absurd (omega arith)
+    due-without-names false false rest d = d
 
 -- it is 0, 13, 16 or 3
 pub due-number : (mode : Mode) (repeats : Repeats) (n : ℕ) (es : List Entry) (e : Entry)
     → (putDue mode repeats n es e ≡ 0) ⊎ ((putDue mode repeats n es e ≡ 13) ⊎ ((putDue mode repeats n es e ≡ 16) ⊎ (putDue mode repeats n es e ≡ 3)))
 unfolding putDue
-due-number mode repeats n es e = go (hasZero (e .name)) (containsName (e .name) es && refusesRepeats repeats) (tooLarge n (sizeOf mode (es ++ (e ∷ []))))
+due-number mode repeats n es e =
+    due-by-tests (hasZero (e .name)) (containsName (e .name) es && refusesRepeats repeats) (tooLarge n (sizeOf mode (es ++ (e ∷ []))))
   where
     Due : ℕ → Type 0
     Due k = (k ≡ 0) ⊎ ((k ≡ 13) ⊎ ((k ≡ 16) ⊎ (k ≡ 3)))
 
-    go : (z h b : Bool) → Due (cond z 13 (cond h 16 (cond b 3 0)))
-    go true h b = inr (inl refl)
-    go false true b = inr (inr (inl refl))
-    go false false true = inr (inr (inr refl))
-    go false false false = inl refl
+    due-by-tests : (z h b : Bool) → Due (cond z 13 (cond h 16 (cond b 3 0)))
+    due-by-tests true h b = inr (inl refl)
+    due-by-tests false true b = inr (inr (inl refl))
+    due-by-tests false false true = inr (inr (inr refl))
+    due-by-tests false false false = inl refl
 
 -- ---- what an accepted put leaves
 
@@ -188,15 +175,15 @@ module _ (mode : Mode) (repeats : Repeats) (n : ℕ) (es : List Entry) (s : Stat
 
   counts-then : (t : ℕ) → t < 256 → getD (countsAfter (s .counts) e) t 0 ≡ count t (placed headSize (es ++ (e ∷ [])))
   unfolding countsAfter
-  counts-then t h = go (ℕ-discrete (tableOf (hashOf (e .name))) t)
+  counts-then t h = by-its-table (ℕ-discrete (tableOf (hashOf (e .name))) t)
     where
-      go : Dec (tableOf (hashOf (e .name)) ≡ t) → getD (countsAfter (s .counts) e) t 0 ≡ count t (placed headSize (es ++ (e ∷ [])))
-      go (yes p) =
+      by-its-table : Dec (tableOf (hashOf (e .name)) ≡ t) → getD (countsAfter (s .counts) e) t 0 ≡ count t (placed headSize (es ++ (e ∷ [])))
+      by-its-table (yes p) =
           ap (λ (k : ℕ). getD (set (s .counts) k (getD (s .counts) k 0 + 1)) t 0) p
           ∙ getD-set-same (s .counts) t (getD (s .counts) t 0 + 1) 0 (omega (arith, w .tables))
           ∙ ap (λ (k : ℕ). k + 1) (w .counts t h)
           ∙ sym (count-same t headSize es e p)
-      go (no q) =
+      by-its-table (no q) =
           getD-set-other (s .counts) (tableOf (hashOf (e .name))) t (getD (s .counts) (tableOf (hashOf (e .name))) 0 + 1) 0 (λ r. q (sym r))
           ∙ w .counts t h
           ∙ sym (count-other t headSize es e q)
@@ -229,15 +216,15 @@ module _ (mode : Mode) (repeats : Repeats) (n : ℕ) (es : List Entry) (s : Stat
 module _ (mode : Mode) (repeats : Repeats) (n : ℕ) (es : List Entry) (s : State) (w : Written mode repeats n es s) (e : Entry) where
   pub put-written : WordId mode (put e) → Written mode repeats n (acceptedAfter mode repeats n es (put e)) (afterPut s e)
   unfolding afterPut
-  put-written word = go (eqb (putDue mode repeats n es e) 0) refl
+  put-written word = written-by-due (eqb (putDue mode repeats n es e) 0) refl
     where
       due : putRefusal s e ≡ putDue mode repeats n es e
       due = put-due mode repeats n es s w e
 
-      go : (b : Bool) → eqb (putDue mode repeats n es e) 0 ≡ b
+      written-by-due : (b : Bool) → eqb (putDue mode repeats n es e) 0 ≡ b
           → Written mode repeats n (es ++ cond b (e ∷ []) []) (cond (eqb (putRefusal s e) 0) (appended s e) s)
-      go true d = rw (due, d) (appended-written mode repeats n es s w e (eqb-true (putDue mode repeats n es e) 0 d) word)
-      go false d = rw (due, d, append-nil es) w
+      written-by-due true d = rw (due, d) (appended-written mode repeats n es s w e (eqb-true (putDue mode repeats n es e) 0 d) word)
+      written-by-due false d = rw (due, d, append-nil es) w
 
 -- ---- a fresh record
 

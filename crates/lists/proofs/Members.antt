@@ -25,22 +25,22 @@ module _ (test : Entry → Bool) (e : Entry) where
   kept : (xs : List Entry) → In e xs → test e ≡ true → In e (filter test xs)
   kept [] m h = absurd m
   kept (x ∷ xs) (inl p) h = rw (filter-yes test x xs (ap test p ∙ h)) (inl p)
-  kept (x ∷ xs) (inr m) h = rw (filter-cons test x xs) (go (test x) (kept xs m h))
+  kept (x ∷ xs) (inr m) h = rw (filter-cons test x xs) (kept-behind-first (test x) (kept xs m h))
     where
-      go : (b : Bool) → In e (filter test xs) → In e (cond b (x ∷ filter test xs) (filter test xs))
-      go true k = inr k
-      go false k = k
+      kept-behind-first : (b : Bool) → In e (filter test xs) → In e (cond b (x ∷ filter test xs) (filter test xs))
+      kept-behind-first true k = inr k
+      kept-behind-first false k = k
 
   kept-from : (xs : List Entry) → In e (filter test xs) → In e xs × (test e ≡ true)
   unfolding filter
   kept-from [] m = absurd m
-  kept-from (x ∷ xs) m = go (test x) refl (kept-from xs) m
+  kept-from (x ∷ xs) m = from-first (test x) refl (kept-from xs) m
     where
-      go : (b : Bool) → test x ≡ b → (In e (filter test xs) → In e xs × (test e ≡ true)) → In e (cond b (x ∷ filter test xs) (filter test xs))
+      from-first : (b : Bool) → test x ≡ b → (In e (filter test xs) → In e xs × (test e ≡ true)) → In e (cond b (x ∷ filter test xs) (filter test xs))
           → In e (x ∷ xs) × (test e ≡ true)
-      go true t rest (inl p) = (inl p, sym (ap test p) ∙ t)
-      go true t rest (inr k) = (inr (rest k .0), rest k .1)
-      go false t rest k = (inr (rest k .0), rest k .1)
+      from-first true t rest (inl p) = (inl p, sym (ap test p) ∙ t)
+      from-first true t rest (inr k) = (inr (rest k .0), rest k .1)
+      from-first false t rest k = (inr (rest k .0), rest k .1)
 
 -- a list of at most one entry, with an entry
 only-one : (e : Entry) (xs : List Entry) → In e xs → length xs ≤ 1 → xs ≡ e ∷ []

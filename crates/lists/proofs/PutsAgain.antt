@@ -27,13 +27,13 @@ module _ (mode : Mode) (repeats : Repeats) (n : ℕ) where
   unfolding acceptedBy dueFrom
   again-from es [] = tt
   again-from es (close ∷ cs) = rw (append-nil es) (again-from es cs)
-  again-from es (put e ∷ cs) = go (eqb (putDue mode repeats n es e) 0) refl (again-from es cs) (again-from (es ++ (e ∷ [])) cs)
+  again-from es (put e ∷ cs) = again-by-due (eqb (putDue mode repeats n es e) 0) refl (again-from es cs) (again-from (es ++ (e ∷ [])) cs)
     where
-      go : (b : Bool) → eqb (putDue mode repeats n es e) 0 ≡ b → Again es (acceptedBy cs (dueFrom mode repeats n es cs))
+      again-by-due : (b : Bool) → eqb (putDue mode repeats n es e) 0 ≡ b → Again es (acceptedBy cs (dueFrom mode repeats n es cs))
           → Again (es ++ (e ∷ [])) (acceptedBy cs (dueFrom mode repeats n (es ++ (e ∷ [])) cs))
           → Again es (cond b (e ∷ []) [] ++ acceptedBy cs (dueFrom mode repeats n (es ++ cond b (e ∷ []) []) cs))
-      go true d without with-it = (eqb-true (putDue mode repeats n es e) 0 d, with-it)
-      go false d without with-it = rw (append-nil es) without
+      again-by-due true d without with-it = (eqb-true (putDue mode repeats n es e) 0 d, with-it)
+      again-by-due false d without with-it = rw (append-nil es) without
 
   -- the accepted puts of a list are such
   pub again : (cs : List Call) → Again [] (accepted mode repeats n cs)

@@ -65,14 +65,14 @@ named-free Oneway es id name all e = absurd (let z : _≡_ {A = ℕ} 0 1 = cc in
 -- an id agrees where the name that it gives has no zero byte
 agrees : (img : List ℕ) (id : ℕ) (given : Option (List ℕ)) → nameGiven img id ≡ given → ((name : List ℕ) → given ≡ some name → hasZero name ≡ false)
     → agreeOn img id ≡ true
-agrees img id given e free = go (naming img id) refl
+agrees img id given e free = agrees-by-naming (naming img id) refl
   where
-    go : (x : Naming) → naming img id ≡ x → agreeOn img id ≡ true
-    go (place s n) p =
+    agrees-by-naming : (x : Naming) → naming img id ≡ x → agreeOn img id ≡ true
+    agrees-by-naming (place s n) p =
         let name = take n (drop s img) in
         let held : given ≡ some name = sym e ∙ ap (bytesAt img) p in
         sym (agree-named img id s n (sym p) (hasZero name) refl) ∙ ap not (free name held)
-    go unnamed p = sym (agree-unnamed img id (sym p))
+    agrees-by-naming unnamed p = sym (agree-unnamed img id (sym p))
 
 image-agrees : (mode : Mode) (es : List Entry) (img : List ℕ) → Read mode es img → All Free es → readingsAgree img ≡ true
 unfolding readingsAgree

@@ -39,7 +39,7 @@ none-named name (e ∷ es) h =
 one-more : (name : List ℕ) (es : List Entry) (e : Entry) → containsName (e .name) es ≡ false → length (ofName name es) ≤ 1
     → length (ofName name (es ++ (e ∷ []))) ≤ 1
 unfolding ofName
-one-more name es e new once = go (hasName name e) refl
+one-more name es e new once = one-by-name (hasName name e) refl
   where
     split : ofName name (es ++ (e ∷ [])) ≡ ofName name es ++ filter (hasName name) (e ∷ [])
     split = filter-append (hasName name) es (e ∷ [])
@@ -47,24 +47,24 @@ one-more name es e new once = go (hasName name e) refl
     long : length (ofName name (es ++ (e ∷ []))) ≡ length (ofName name es) + length (filter (hasName name) (e ∷ []))
     long = ap length split ∙ length-append (ofName name es) (filter (hasName name) (e ∷ []))
 
-    go : (b : Bool) → hasName name e ≡ b → length (ofName name (es ++ (e ∷ []))) ≤ 1
-    go true h =
+    one-by-name : (b : Bool) → hasName name e ≡ b → length (ofName name (es ++ (e ∷ []))) ≤ 1
+    one-by-name true h =
         let same-name = same-true (e .name) name h in
         let none : ofName name es ≡ [] = ap (λ (l : List ℕ). ofName l es) (sym same-name) ∙ none-named (e .name) es new in
         omega (arith, long, ap length none, ap length (filter-yes (hasName name) e [] h), ap length (filter-nil (hasName name)))
-    go false h = omega (arith, long, ap length (filter-no (hasName name) e [] h), ap length (filter-nil (hasName name)))
+    one-by-name false h = omega (arith, long, ap length (filter-no (hasName name) e [] h), ap length (filter-nil (hasName name)))
 
 module _ (mode : Mode) (n : ℕ) where
   once-from : (name : List ℕ) (es : List Entry) (cs : List Call) → length (ofName name es) ≤ 1 → length (ofName name (acceptedFrom mode Off n es cs)) ≤ 1
   unfolding acceptedFrom
   once-from name es [] once = once
   once-from name es (close ∷ cs) once = once-from name (es ++ []) cs (rw (append-nil es) once)
-  once-from name es (put e ∷ cs) once = once-from name _ cs (go (eqb (putDue mode Off n es e) 0) refl)
+  once-from name es (put e ∷ cs) once = once-from name _ cs (once-by-due (eqb (putDue mode Off n es e) 0) refl)
     where
-      go : (b : Bool) → eqb (putDue mode Off n es e) 0 ≡ b → length (ofName name (es ++ cond b (e ∷ []) [])) ≤ 1
-      go true d =
+      once-by-due : (b : Bool) → eqb (putDue mode Off n es e) 0 ≡ b → length (ofName name (es ++ cond b (e ∷ []) [])) ≤ 1
+      once-by-due true d =
           one-more name es e (sym (and-true (containsName (e .name) es)) ∙ due-new mode Off n es e (eqb-true (putDue mode Off n es e) 0 d)) once
-      go false d = rw (append-nil es) once
+      once-by-due false d = rw (append-nil es) once
 
   once : (name : List ℕ) (cs : List Call) → length (ofName name (accepted mode Off n cs)) ≤ 1
   unfolding accepted ofName

@@ -41,7 +41,7 @@ pub hits-of-name : (name : List ℕ) (o : ℕ) (es : List Entry)
 unfolding placed ofTable filter hitsOfName
 hits-of-name name o [] = refl
 hits-of-name name o (e ∷ es) =
-    go (same (e .name) name) refl (eqb (tableOf (hashOf (e .name))) (tableOf (hashOf name))) refl (hits-of-name name (o + entrySize e) es)
+    hits-with-first (same (e .name) name) refl (eqb (tableOf (hashOf (e .name))) (tableOf (hashOf name))) refl (hits-of-name name (o + entrySize e) es)
   where
     p : Placed
     p = record { entry = e; at = o }
@@ -52,16 +52,16 @@ hits-of-name name o (e ∷ es) =
     T : List Hit
     T = hitsOfName name (o + entrySize e) es
 
-    go : (s : Bool) → same (e .name) name ≡ s → (t : Bool) → eqb (tableOf (hashOf (e .name))) (tableOf (hashOf name)) ≡ t
+    hits-with-first : (s : Bool) → same (e .name) name ≡ s → (t : Bool) → eqb (tableOf (hashOf (e .name))) (tableOf (hashOf name)) ≡ t
         → hitsIn (map (probeOfEntry name) K) ≡ T → hitsIn (map (probeOfEntry name) (cond t (p ∷ K) K)) ≡ cond s (hitOfEntry p ∷ T) T
-    go true q true r ih = rw q (ap (λ (l : List Hit). hitOfEntry p ∷ l) ih)
-    go true q false r ih =
+    hits-with-first true q true r ih = rw q (ap (λ (l : List Hit). hitOfEntry p ∷ l) ih)
+    hits-with-first true q false r ih =
         let w : eqb (tableOf (hashOf (e .name))) (tableOf (hashOf name)) ≡ true =
         eq-eqb (tableOf (hashOf (e .name))) (tableOf (hashOf name)) (ap (λ (l : List ℕ). tableOf (hashOf l)) (same-true (e .name) name q)) in
         let z : _≡_ {A = ℕ} 0 1 = cc in
         absurd (omega arith)
-    go false q true r ih = rw q ih
-    go false q false r ih = ih
+    hits-with-first false q true r ih = rw q ih
+    hits-with-first false q false r ih = ih
 
 -- the first of them: its id and its place
 abbrev pub idIn : Hit → ℕ
@@ -73,22 +73,22 @@ offsetIn t = t .offset
 pub first-id : (name : List ℕ) (o : ℕ) (es : List Entry) → Option·map idIn (firstOf (hitsOfName name o es)) ≡ firstId (ofName name es)
 unfolding hitsOfName filter ofName
 first-id name o [] = refl
-first-id name o (e ∷ es) = go (hasName name e) (hitsOfName name (o + entrySize e) es) (first-id name (o + entrySize e) es)
+first-id name o (e ∷ es) = id-with-first (hasName name e) (hitsOfName name (o + entrySize e) es) (first-id name (o + entrySize e) es)
   where
-    go : (s : Bool) (T : List Hit) → Option·map idIn (firstOf T) ≡ firstId (ofName name es)
+    id-with-first : (s : Bool) (T : List Hit) → Option·map idIn (firstOf T) ≡ firstId (ofName name es)
         → Option·map idIn (firstOf (cond s (hitOfEntry (record { entry = e; at = o }) ∷ T) T)) ≡ firstId (cond s (e ∷ ofName name es) (ofName name es))
-    go true T ih = refl
-    go false T ih = ih
+    id-with-first true T ih = refl
+    id-with-first false T ih = ih
 
 pub first-at : (name : List ℕ) (o : ℕ) (es : List Entry) → Option·map offsetIn (firstOf (hitsOfName name o es)) ≡ firstAt name o es
 unfolding hitsOfName firstAt
 first-at name o [] = refl
-first-at name o (e ∷ es) = go (hasName name e) (hitsOfName name (o + entrySize e) es) (first-at name (o + entrySize e) es)
+first-at name o (e ∷ es) = offset-with-first (hasName name e) (hitsOfName name (o + entrySize e) es) (first-at name (o + entrySize e) es)
   where
-    go : (s : Bool) (T : List Hit) → Option·map offsetIn (firstOf T) ≡ firstAt name (o + entrySize e) es
+    offset-with-first : (s : Bool) (T : List Hit) → Option·map offsetIn (firstOf T) ≡ firstAt name (o + entrySize e) es
         → Option·map offsetIn (firstOf (cond s (hitOfEntry (record { entry = e; at = o }) ∷ T) T)) ≡ cond s (some o) (firstAt name (o + entrySize e) es)
-    go true T ih = refl
-    go false T ih = ih
+    offset-with-first true T ih = refl
+    offset-with-first false T ih = ih
 
 -- ---- an entry of the name with this id
 

@@ -13,7 +13,8 @@ use Rattle.jhash.specs.NameHash.{hashOf}
 use Rattle.jhash.proofs.Outcomes.{hashOf-below}
 use Rattle.image.specs.Bytes.{le32, same}
 use Rattle.image.specs.Tables.{Bucket, empty, tableOf, start, probeSequence, filled}
-use Rattle.image.specs.Image.{Entry, Placed, headSize, ofTable, inTable, count, bucketOf, bucketBytes, table, entriesBefore, tableOffset, backSize, entriesEnd, imageSize, image}
+use Rattle.image.specs.Image.{Entry, Placed, headSize, ofTable, inTable, count, bucketOf, bucketBytes, table, entriesBefore, tableOffset, backSize}
+use Rattle.image.specs.Image.{entriesEnd, imageSize, image}
 use Rattle.image.specs.declared.Mode.{Mode}
 use Rattle.image.proofs.Sizes.{length-image}
 use Rattle.reader.specs.Lookup.{nothing, Hit, Probe, pass, hit, probeEntry, probeBucket, lookup}
@@ -45,11 +46,11 @@ nothing-searched hs m e = record {
 -- a name that is too long for a hash, in any bytes
 met-long : (image name : List ℕ) → 4294967295 ≤ length name → matchesOf image name ≡ ended 0
 unfolding matchesOf
-met-long image name h = rw (le-leb 4294967295 (length name) h) (go (ltb (length image) headSize))
+met-long image name h = rw (le-leb 4294967295 (length name) h) (ended-either-way (ltb (length image) headSize))
   where
-    go : (b : Bool) → cond b (ended 0) (ended 0) ≡ ended 0
-    go true = refl
-    go false = refl
+    ended-either-way : (b : Bool) → cond b (ended 0) (ended 0) ≡ ended 0
+    ended-either-way true = refl
+    ended-either-way false = refl
 
 pub lookup-long : (image name : List ℕ) → 4294967295 ≤ length name → lookup image name ≡ nothing 0
 lookup-long image name h = lookup-first image name ∙ ap firstMatch (met-long image name h)
@@ -84,29 +85,31 @@ module _ (mode : Mode) (es : List Entry) (fits : imageSize mode es ≤ 429496729
   unfolding v
   look-entry p (s, i) =
       rw (ne-eqb (p .at) 0 (λ z. let a = s .after in omega arith), probe-entry-at (p .entry) (s .there) small name i)
-      (go (same (p .entry .name) name) refl)
+      (by-same-name (same (p .entry .name) name) refl)
     where
-      go : (b : Bool) → same (p .entry .name) name ≡ b
+      by-same-name : (b : Bool) → same (p .entry .name) name ≡ b
           → cond (eqb (hashOf (p .entry .name)) (hashOf name)) (cond b (hit (hitOfEntry p)) pass) pass ≡ cond b (hit (hitOfEntry p)) pass
-      go true e = rw (eq-eqb (hashOf (p .entry .name)) (hashOf name) (ap hashOf (same-true (p .entry .name) name e)))
-      go false e = other (eqb (hashOf (p .entry .name)) (hashOf name))
+      by-same-name true e = rw (eq-eqb (hashOf (p .entry .name)) (hashOf name) (ap hashOf (same-true (p .entry .name) name e)))
+      by-same-name false e = other (eqb (hashOf (p .entry .name)) (hashOf name))
         where
           other : (c : Bool) → cond c pass pass ≡ pass
           other true = refl
           other false = refl
 
   taken-entry : (p : Placed) → Read p → Taken (probeWith (hashOf name) v (bucketOf p))
-  taken-entry p r = rw (look-entry p r) (go (same (p .entry .name) name))
+  taken-entry p r = rw (look-entry p r) (taken-either-way (same (p .entry .name) name))
     where
-      go : (b : Bool) → Taken (cond b (hit (hitOfEntry p)) pass)
-      go true = tt
-      go false = tt
+      taken-either-way : (b : Bool) → Taken (cond b (hit (hitOfEntry p)) pass)
+      taken-either-way true = tt
+      taken-either-way false = tt
 
   all-taken : All (λ (b : Bucket). Taken (probeWith (hashOf name) v b)) (map bucketOf qs)
   all-taken = all-image (λ (b : Bucket). Taken (probeWith (hashOf name) v b)) bucketOf taken-entry qs all-read
 
   looks : map (probeWith (hashOf name) v) (map bucketOf qs) ≡ map (probeOfEntry name) qs
-  looks = map-map (probeWith (hashOf name) v) bucketOf qs ∙ map-ext (λ (p : Placed). probeWith (hashOf name) v (bucketOf p)) (probeOfEntry name) look-entry qs all-read
+  looks =
+      map-map (probeWith (hashOf name) v) bucketOf qs
+      ∙ map-ext (λ (p : Placed). probeWith (hashOf name) v (bucketOf p)) (probeOfEntry name) look-entry qs all-read
 
   -- ---- the buckets as they are read
 
@@ -164,11 +167,11 @@ module _ (mode : Mode) (es : List Entry) (fits : imageSize mode es ≤ 429496729
   -- ---- the table's row decides whether it is searched
 
   no-entry : count (tableOf (hashOf name)) (placedIn es) ≡ 0 → hitsOfName name headSize es ≡ []
-  no-entry e = sym (hits-of-name name headSize es) ∙ go (ofTable (tableOf (hashOf name)) (placedIn es)) e
+  no-entry e = sym (hits-of-name name headSize es) ∙ none-no-hits (ofTable (tableOf (hashOf name)) (placedIn es)) e
     where
-      go : (ps : List Placed) → length ps ≡ 0 → hitsIn (map (probeOfEntry name) ps) ≡ []
-      go [] z = refl
-      go (p ∷ ps) z = absurd (omega arith)
+      none-no-hits : (ps : List Placed) → length ps ≡ 0 → hitsIn (map (probeOfEntry name) ps) ≡ []
+      none-no-hits [] z = refl
+      none-no-hits (p ∷ ps) z = absurd (omega arith)
 
   by-count : (b : Bool) → eqb (count (tableOf (hashOf name)) (placedIn es)) 0 ≡ b
       → Searched (hitsOfName name headSize es) (tablePuts name es) (matchesByHash (image mode es) name (hashOf name))
@@ -190,15 +193,15 @@ module _ (mode : Mode) (es : List Entry) (fits : imageSize mode es ≤ 429496729
 
   pub matches-searched : Searched (hitsOfName name headSize es) (tablePuts name es) (matchesOf (image mode es) name)
   unfolding matchesOf
-  matches-searched = go (decLt (length name) 4294967295)
+  matches-searched = by-name-length (decLt (length name) 4294967295)
     where
       long : 4294967295 ≤ length name → hitsOfName name headSize es ≡ []
       long l = no-hits name headSize es (all-map (λ e q. omega arith) es (names-short 4294967295 es (omega arith)))
 
-      go : Dec (length name < 4294967295) → Searched (hitsOfName name headSize es) (tablePuts name es) (matchesOf (image mode es) name)
-      go (yes l) =
+      by-name-length : Dec (length name < 4294967295) → Searched (hitsOfName name headSize es) (tablePuts name es) (matchesOf (image mode es) name)
+      by-name-length (yes l) =
           rw (long-enough mode es fits, lt-leb 4294967295 (length name) l)
           (by-count (eqb (count (tableOf (hashOf name)) (placedIn es)) 0) refl)
-      go (no l) =
+      by-name-length (no l) =
           let m : 4294967295 ≤ length name = omega arith in
           rw (met-long (image mode es) name m) (nothing-searched (hitsOfName name headSize es) (tablePuts name es) (long m))

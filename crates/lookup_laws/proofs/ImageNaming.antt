@@ -34,7 +34,7 @@ none-of-id id (e ∷ es) h = rw (ne-eqb (e .id) id (λ z. omega arith)) (none-of
 placed-of-id : (id o : ℕ) (es : List Entry) → map (λ (p : Placed). p .entry) (placedOfId id (placed o es)) ≡ ofId id es
 unfolding placed placedOfId filter ofId
 placed-of-id id o [] = refl
-placed-of-id id o (e ∷ es) = go (eqb (e .id) id) (placed-of-id id (o + entrySize e) es)
+placed-of-id id o (e ∷ es) = entries-kept (eqb (e .id) id) (placed-of-id id (o + entrySize e) es)
   where
     K : List Placed
     K = filter (λ (p : Placed). hasId id (p .entry)) (placed (o + entrySize e) es)
@@ -42,9 +42,10 @@ placed-of-id id o (e ∷ es) = go (eqb (e .id) id) (placed-of-id id (o + entrySi
     N : List Entry
     N = filter (hasId id) es
 
-    go : (t : Bool) → map (λ (p : Placed). p .entry) K ≡ N → map (λ (p : Placed). p .entry) (cond t (record { entry = e; at = o } ∷ K) K) ≡ cond t (e ∷ N) N
-    go true ih = ap (λ (l : List Entry). e ∷ l) ih
-    go false ih = ih
+    entries-kept : (t : Bool) → map (λ (p : Placed). p .entry) K ≡ N
+        → map (λ (p : Placed). p .entry) (cond t (record { entry = e; at = o } ∷ K) K) ≡ cond t (e ∷ N) N
+    entries-kept true ih = ap (λ (l : List Entry). e ∷ l) ih
+    entries-kept false ih = ih
 
 -- the last name, or d without one
 lastNameFrom : Option (List ℕ) → List Entry → Option (List ℕ)
@@ -104,7 +105,8 @@ module _ (es : List Entry) (fits : imageSize Twoway es ≤ 4294967295) (id : ℕ
   link-word : id < backSize es → word (image Twoway es) (entriesEnd es + 16 * length es + 4 * id) ≡ backWord (placedIn es) id
   unfolding backWord
   link-word h =
-      at-word (backWord (placedIn es) id) (backWord-at Twoway es fits id h) (last-below (image Twoway es) img-small 0 (placedOfId id (placedIn es)) (omega arith) of-id)
+      at-word (backWord (placedIn es) id) (backWord-at Twoway es fits id h)
+      (last-below (image Twoway es) img-small 0 (placedOfId id (placedIn es)) (omega arith) of-id)
 
   back-there : 0 < backSize es → backOffset Twoway es ≡ entriesEnd es + 16 * length es
   unfolding backOffset
@@ -114,11 +116,11 @@ module _ (es : List Entry) (fits : imageSize Twoway es ≤ 4294967295) (id : ℕ
   beyond : backSize es ≤ id → nameGiven (image Twoway es) id ≡ none
   unfolding naming
   beyond h =
-      rw (le-leb (backSizeAt (image Twoway es)) id (rw (backSizeAt-image Twoway es fits) h)) (go (noBack (image Twoway es)))
+      rw (le-leb (backSizeAt (image Twoway es)) id (rw (backSizeAt-image Twoway es fits) h)) (unnamed-either-way (noBack (image Twoway es)))
     where
-      go : (b : Bool) → bytesAt (image Twoway es) (cond b unnamed unnamed) ≡ none
-      go true = refl
-      go false = refl
+      unnamed-either-way : (b : Bool) → bytesAt (image Twoway es) (cond b unnamed unnamed) ≡ none
+      unnamed-either-way true = refl
+      unnamed-either-way false = refl
 
   within : id < backSize es → nameGiven (image Twoway es) id ≡ lastName (ofId id es)
   unfolding naming
@@ -136,11 +138,11 @@ module _ (es : List Entry) (fits : imageSize Twoway es ≤ 4294967295) (id : ℕ
       backWord-named
 
   pub naming-image : nameGiven (image Twoway es) id ≡ lastName (ofId id es)
-  naming-image = go (decLt id (backSize es))
+  naming-image = by-back-size (decLt id (backSize es))
     where
-      go : Dec (id < backSize es) → nameGiven (image Twoway es) id ≡ lastName (ofId id es)
-      go (yes h) = within h
-      go (no h) =
+      by-back-size : Dec (id < backSize es) → nameGiven (image Twoway es) id ≡ lastName (ofId id es)
+      by-back-size (yes h) = within h
+      by-back-size (no h) =
           let q : backSize es ≤ id = omega arith in
           beyond q ∙ sym (ap lastName (none-of-id id es q))
 

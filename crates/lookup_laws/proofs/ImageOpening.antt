@@ -101,21 +101,21 @@ module _ (mode : Mode) (es : List Entry) where
     unfolding tableOffset
     table-inside t h =
         le-ltb (length (image mode es)) (tableAt (image mode es) t + 8 * bucketNumber (image mode es) t)
-        (rw (tableAt-image mode es fits t h, bucketNumber-image mode es fits t h, length-image mode es) (go (eqb (count t (placedIn es)) 0)))
+        (rw (tableAt-image mode es fits t h, bucketNumber-image mode es fits t h, length-image mode es) (some-table-inside (eqb (count t (placedIn es)) 0)))
       where
-        go : (b : Bool) → cond b 0 (entriesEnd es + 16 * entriesBefore t (placedIn es)) + 8 * (2 * count t (placedIn es)) ≤ imageSize mode es
-        go true = omega (arith, most mode es fits t h)
-        go false = omega (arith, most mode es fits t h)
+        some-table-inside : (b : Bool) → cond b 0 (entriesEnd es + 16 * entriesBefore t (placedIn es)) + 8 * (2 * count t (placedIn es)) ≤ imageSize mode es
+        some-table-inside true = omega (arith, most mode es fits t h)
+        some-table-inside false = omega (arith, most mode es fits t h)
 
     pub back-inside : backPastEnd (image mode es) ≡ false
     unfolding backOffset
     back-inside =
         le-ltb (length (image mode es)) (backOffsetAt (image mode es) + 4 * backSizeAt (image mode es))
-        (rw (backOffsetAt-image, backSizeAt-image, length-image mode es) (go (eqb (backSizeOf mode es) 0)))
+        (rw (backOffsetAt-image, backSizeAt-image, length-image mode es) (back-array-inside (eqb (backSizeOf mode es) 0)))
       where
-        go : (b : Bool) → cond b 0 (entriesEnd es + 16 * length es) + 4 * backSizeOf mode es ≤ imageSize mode es
-        go true = omega arith
-        go false = omega arith
+        back-array-inside : (b : Bool) → cond b 0 (entriesEnd es + 16 * length es) + 4 * backSizeOf mode es ≤ imageSize mode es
+        back-array-inside true = omega arith
+        back-array-inside false = omega arith
 
     tables-inside : (m t : ℕ) → t + m ≤ 256 → somePastEnd (image mode es) t m ≡ false
     unfolding somePastEnd

@@ -55,9 +55,10 @@ module _ (img : List ℕ) (id : ℕ) where
 pub hint-image : (mode : Mode) (es : List Entry) → imageSize mode es ≤ 4294967295 → (n : ℕ) → upperHint (image mode es) n ≡ backSizeOf mode es - n
 unfolding upperHint backOffset
 hint-image mode es fits n =
-    rw (long-enough mode es fits, back-inside mode es fits, backSizeAt-image mode es fits, backOffsetAt-image mode es fits) (go (eqb (backSizeOf mode es) 0) refl)
+    rw (long-enough mode es fits, back-inside mode es fits, backSizeAt-image mode es fits, backOffsetAt-image mode es fits)
+    (by-back-array (eqb (backSizeOf mode es) 0) refl)
   where
-    go : (b : Bool) → eqb (backSizeOf mode es) 0 ≡ b
+    by-back-array : (b : Bool) → eqb (backSizeOf mode es) 0 ≡ b
         → cond (eqb (cond b 0 (entriesEnd es + 16 * length es)) 0 || false) 0 (backSizeOf mode es - n) ≡ backSizeOf mode es - n
-    go true e = omega (arith, eqb-true (backSizeOf mode es) 0 e)
-    go false e = rw (ne-eqb (entriesEnd es + 16 * length es) 0 (λ z. omega arith))
+    by-back-array true e = omega (arith, eqb-true (backSizeOf mode es) 0 e)
+    by-back-array false e = rw (ne-eqb (entriesEnd es + 16 * length es) 0 (λ z. omega arith))

@@ -12,6 +12,7 @@ use lib.ListN.{length}
 use Rattle.image.specs.Bytes.{filter, same}
 use Rattle.image.specs.Image.{Entry, hasId, imageSize, image}
 use Rattle.image.specs.declared.Mode.the-variants.{Twoway}
+use Rattle.image.proofs.Bools.{chose-first}
 use Rattle.image.proofs.Lists.{filter-nil, filter-yes, filter-no}
 use Rattle.reader.specs.Lookup.{lookup}
 use Rattle.lookup_laws.specs.Answer.{foundId, nameGiven, hasName, ofName, ofId, firstId, lastName}
@@ -23,25 +24,24 @@ module _ {A : Type 0} (f g : A → Bool) where
   keep-swap : (xs : List A) → filter f (filter g xs) ≡ filter g (filter f xs)
   unfolding filter
   keep-swap [] = refl
-  keep-swap (x ∷ xs) = go (f x) refl (g x) refl (keep-swap xs)
+  keep-swap (x ∷ xs) = swap-with-first (f x) refl (g x) refl (keep-swap xs)
     where
-      go : (s : Bool) → f x ≡ s → (t : Bool) → g x ≡ t → filter f (filter g xs) ≡ filter g (filter f xs)
+      swap-with-first : (s : Bool) → f x ≡ s → (t : Bool) → g x ≡ t → filter f (filter g xs) ≡ filter g (filter f xs)
           → filter f (cond t (x ∷ filter g xs) (filter g xs)) ≡ filter g (cond s (x ∷ filter f xs) (filter f xs))
-      go true p true q ih = filter-yes f x (filter g xs) p ∙ ap (λ (l : List A). x ∷ l) ih ∙ sym (filter-yes g x (filter f xs) q)
-      go true p false q ih = ih ∙ sym (filter-no g x (filter f xs) q)
-      go false p true q ih = filter-no f x (filter g xs) p ∙ ih
-      go false p false q ih = ih
+      swap-with-first true p true q ih = filter-yes f x (filter g xs) p ∙ ap (λ (l : List A). x ∷ l) ih ∙ sym (filter-yes g x (filter f xs) q)
+      swap-with-first true p false q ih = ih ∙ sym (filter-no g x (filter f xs) q)
+      swap-with-first false p true q ih = filter-no f x (filter g xs) p ∙ ih
+      swap-with-first false p false q ih = ih
 
 -- where at most one stands, and one passes, it is that one
 module _ {A : Type 0} (f : A → Bool) where
   keep-one : (e : A) (xs : List A) → length xs ≤ 1 → filter f xs ≡ e ∷ [] → (xs ≡ e ∷ []) × (f e ≡ true)
   unfolding filter
   keep-one e [] h q = let z : _≡_ {A = ℕ} 0 1 = cc in absurd (omega arith)
-  keep-one e (x ∷ []) h q = go (f x) refl q
-    where
-      go : (t : Bool) → f x ≡ t → cond t (x ∷ []) [] ≡ e ∷ [] → (x ∷ [] ≡ e ∷ []) × (f e ≡ true)
-      go true p r = let s : x ≡ e = cc in (r, sym (ap f s) ∙ p)
-      go false p r = let z : _≡_ {A = ℕ} 0 1 = cc in absurd (omega arith)
+  keep-one e (x ∷ []) h q =
+      let kept = chose-first (f x) (x ∷ []) [] (e ∷ []) (λ none. let z : _≡_ {A = ℕ} 0 1 = cc in omega arith) q in
+      let is : x ≡ e = cc (kept .1) in
+      (kept .1, sym (ap f is) ∙ kept .0)
   keep-one e (x ∷ y ∷ xs) h q = absurd (omega arith)
 
 -- ---- on the entries

@@ -40,26 +40,26 @@ module _ (h : ℕ) (v : ℕ → Bool) where
   no-hit : (b : ℕ → Bucket) (ks : List ℕ) → hasMatch b h v ks ≡ false → hits (map (λ (k : ℕ). probeWith h probeOfEntry (b k)) ks) ≡ []
   unfolding hasMatch
   no-hit b [] e = refl
-  no-hit b (k ∷ ks) e = go (eqb (b k .at) 0) (eqb (b k .hash) h) (v (b k .at)) (no-hit b ks) e
+  no-hit b (k ∷ ks) e = no-hit-first (eqb (b k .at) 0) (eqb (b k .hash) h) (v (b k .at)) (no-hit b ks) e
     where
       w : List Probe
       w = map (λ (j : ℕ). probeWith h probeOfEntry (b j)) ks
 
-      go : (p q t : Bool) → (hasMatch b h v ks ≡ false → hits w ≡ []) → cond p false (cond (q && t) true (hasMatch b h v ks)) ≡ false
+      no-hit-first : (p q t : Bool) → (hasMatch b h v ks ≡ false → hits w ≡ []) → cond p false (cond (q && t) true (hasMatch b h v ks)) ≡ false
           → hits (cond p ends (cond q (cond t (hit (hitAt (b k .at))) pass) pass) ∷ w) ≡ []
-      go true q t rest e = refl
-      go false true true rest e = absurd (false-not-true (sym e))
-      go false true false rest e = rest e
-      go false false t rest e = rest e
+      no-hit-first true q t rest e = refl
+      no-hit-first false true true rest e = absurd (false-not-true (sym e))
+      no-hit-first false true false rest e = rest e
+      no-hit-first false false t rest e = rest e
 
   -- an entry has a verdict
   taken : (b : Bucket) → NotEmpty b → Taken (probeWith h probeOfEntry b)
-  taken b full = rw (ne-eqb (b .at) 0 full) (go (eqb (b .hash) h) (v (b .at)))
+  taken b full = rw (ne-eqb (b .at) 0 full) (taken-looked (eqb (b .hash) h) (v (b .at)))
     where
-      go : (q t : Bool) → Taken (cond q (cond t (hit (hitAt (b .at))) pass) pass)
-      go true true = tt
-      go true false = tt
-      go false t = tt
+      taken-looked : (q t : Bool) → Taken (cond q (cond t (hit (hitAt (b .at))) pass) pass)
+      taken-looked true true = tt
+      taken-looked true false = tt
+      taken-looked false t = tt
 
   -- of another hash, or not equal
   abbrev Other : Bucket → Type 0
@@ -71,16 +71,16 @@ module _ (h : ℕ) (v : ℕ → Bool) where
   -- entries without a hit are others
   others : (bs : List Bucket) → All NotEmpty bs → hitsIn (map (probeWith h probeOfEntry) bs) ≡ [] → All Other bs
   others [] full e = tt
-  others (b ∷ bs) full e = go (eqb (b .hash) h) refl (v (b .at)) refl (rw (ne-eqb (b .at) 0 (full .0)) at e) (others bs (full .1))
+  others (b ∷ bs) full e = first-other (eqb (b .hash) h) refl (v (b .at)) refl (rw (ne-eqb (b .at) 0 (full .0)) at e) (others bs (full .1))
     where
       w : List Probe
       w = map (probeWith h probeOfEntry) bs
 
-      go : (q : Bool) → eqb (b .hash) h ≡ q → (t : Bool) → v (b .at) ≡ t → hitOf (cond q (cond t (hit (hitAt (b .at))) pass) pass) ++ hitsIn w ≡ []
+      first-other : (q : Bool) → eqb (b .hash) h ≡ q → (t : Bool) → v (b .at) ≡ t → hitOf (cond q (cond t (hit (hitAt (b .at))) pass) pass) ++ hitsIn w ≡ []
           → (hitsIn w ≡ [] → All Other bs) → Other b × All Other bs
-      go true p true r e rest = no-cons e
-      go true p false r e rest = (λ z. r, rest e)
-      go false p t r e rest = (λ z. absurd (false-not-true (sym p ∙ eq-eqb (b .hash) h z)), rest e)
+      first-other true p true r e rest = no-cons e
+      first-other true p false r e rest = (λ z. r, rest e)
+      first-other false p t r e rest = (λ z. absurd (false-not-true (sym p ∙ eq-eqb (b .hash) h z)), rest e)
 
   pub no-match : (m : ℕ) (bs : List Bucket) → 0 < m → length bs ≤ m → All NotEmpty bs
       → hasMatch (λ (k : ℕ). getD (filled m bs) k empty) h v (probeSequence m m (start h m)) ≡ false → All Other bs

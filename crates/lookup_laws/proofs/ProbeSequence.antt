@@ -26,7 +26,8 @@ probeSequence-at n (suc m) k (suc j) h i =
     ∙ ap (λ (x : ℕ). x % n) e
 
 -- two searches that see the same in each bucket meet the same
-pub matches-ext : (f g : ℕ → Probe) (n : ℕ) → ((k : ℕ) → k < n → f k ≡ g k) → (m k r : ℕ) → k < n → matchesAlong f (probeSequence n m k) r ≡ matchesAlong g (probeSequence n m k) r
+pub matches-ext : (f g : ℕ → Probe) (n : ℕ) → ((k : ℕ) → k < n → f k ≡ g k) → (m k r : ℕ) → k < n
+    → matchesAlong f (probeSequence n m k) r ≡ matchesAlong g (probeSequence n m k) r
 unfolding probeSequence matchesAlong
 matches-ext f g n same zero k r h = refl
 matches-ext f g n same (suc m) k r h =
@@ -47,13 +48,13 @@ wrapped n a b h i = elim (decLt (a + b) n) [
 ]
 
 place-injective : (n s i j : ℕ) → s < n → i < n → j < n → (s + i) % n ≡ (s + j) % n → i ≡ j
-place-injective n s i j hs hi hj e = go (wrapped n s i hs hi) (wrapped n s j hs hj)
+place-injective n s i j hs hi hj e = by-wraps (wrapped n s i hs hi) (wrapped n s j hs hj)
   where
-    go : Wrapped n s i → Wrapped n s j → i ≡ j
-    go (inl a) (inl b) = omega arith
-    go (inl a) (inr b) = omega arith
-    go (inr a) (inl b) = omega arith
-    go (inr a) (inr b) = omega arith
+    by-wraps : Wrapped n s i → Wrapped n s j → i ≡ j
+    by-wraps (inl a) (inl b) = omega arith
+    by-wraps (inl a) (inr b) = omega arith
+    by-wraps (inr a) (inl b) = omega arith
+    by-wraps (inr a) (inr b) = omega arith
 
 -- and every bucket has its place
 pub place-of : (n s k : ℕ) → s < n → k < n → (j : ℕ) × (j < n) × ((s + j) % n ≡ k)

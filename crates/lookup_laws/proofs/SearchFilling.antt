@@ -56,15 +56,15 @@ module _ (f : Bucket → Probe) (sees : EndsAtEmpty f) where
       → firstEmpty (atOf table) ks ≡ getD ks (idx (map (λ (k : ℕ). f (getD table k empty)) ks)) 0
   unfolding firstEmpty
   firstEmpty-place table [] h = absurd (omega arith)
-  firstEmpty-place table (k ∷ ks) h = go (eqb (atOf table k) 0) refl (firstEmpty-place table ks)
+  firstEmpty-place table (k ∷ ks) h = by-first-slot (eqb (atOf table k) 0) refl (firstEmpty-place table ks)
     where
       w : List Probe
       w = map (λ (k : ℕ). f (getD table k empty)) ks
 
-      go : (t : Bool) → eqb (atOf table k) 0 ≡ t → (idx w < length ks → firstEmpty (atOf table) ks ≡ getD ks (idx w) 0)
+      by-first-slot : (t : Bool) → eqb (atOf table k) 0 ≡ t → (idx w < length ks → firstEmpty (atOf table) ks ≡ getD ks (idx w) 0)
           → cond t k (firstEmpty (atOf table) ks) ≡ getD (k ∷ ks) (idx (f (getD table k empty) ∷ w)) 0
-      go true e ih = rw (sees .empties (getD table k empty) (eqb-true (atOf table k) 0 e))
-      go false e ih =
+      by-first-slot true e ih = rw (sees .empties (getD table k empty) (eqb-true (atOf table k) 0 e))
+      by-first-slot false e ih =
           let i : idx (f (getD table k empty) ∷ w) ≡ suc (idx w) =
           idx-taken (f (getD table k empty)) w (sees .takes (getD table k empty) (eqb-false (atOf table k) 0 e)) in
           rw i (ih (omega arith))
@@ -91,7 +91,8 @@ module _ (f : Bucket → Probe) (sees : EndsAtEmpty f) where
         → (j : ℕ) × (getD (view n f table s) j pass ≡ ends) × (view n f (insert n table b) s ≡ set (view n f table s) j (f b))
     unfolding insert
     any-step hs hi s h =
-        go (firstEmpty (atOf table) (probeSequence n n s₀)) (place-of n s (firstEmpty (atOf table) (probeSequence n n s₀)) h (rw (own-place hs hi) (mod-lt (s₀ + i) (omega arith))))
+        ends-at-place (firstEmpty (atOf table) (probeSequence n n s₀))
+        (place-of n s (firstEmpty (atOf table) (probeSequence n n s₀)) h (rw (own-place hs hi) (mod-lt (s₀ + i) (omega arith))))
         (rw (own-place hs hi) was)
       where
         s₀ : ℕ
@@ -103,9 +104,9 @@ module _ (f : Bucket → Probe) (sees : EndsAtEmpty f) where
         was : f (getD table ((s₀ + i) % n) empty) ≡ ends
         was = sym (view-at n f table s₀ i hs hi) ∙ idx-empty (view n f table s₀) (rw (view-length n f table s₀) hi)
 
-        go : (k : ℕ) → (j : ℕ) × (j < n) × ((s + j) % n ≡ k) → f (getD table k empty) ≡ ends
+        ends-at-place : (k : ℕ) → (j : ℕ) × (j < n) × ((s + j) % n ≡ k) → f (getD table k empty) ≡ ends
             → (j : ℕ) × (getD (view n f table s) j pass ≡ ends) × (view n f (set table k b) s ≡ set (view n f table s) j (f b))
-        go k (j, hj, e) e₀ = (
+        ends-at-place k (j, hj, e) e₀ = (
           j,
           view-at n f table s j h hj ∙ ap (λ (k : ℕ). f (getD table k empty)) e ∙ e₀,
           rw (← e) (view-set n f table s j b sized h hj),

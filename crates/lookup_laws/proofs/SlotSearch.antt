@@ -113,11 +113,11 @@ module _ (b : ℕ → Bucket) where
   used-most : (ks : List ℕ) → usedIn ks ≤ length ks
   unfolding looked
   used-most [] = omega arith
-  used-most (k ∷ ks) = go (eqb (b k .at) 0) (used-most ks)
+  used-most (k ∷ ks) = one-bucket-more (eqb (b k .at) 0) (used-most ks)
     where
-      go : (t : Bool) → usedIn ks ≤ length ks → used (cond t ends pass ∷ map (λ (k : ℕ). looked (b k)) ks) ≤ suc (length ks)
-      go true l = omega (arith, l)
-      go false l = omega (arith, l)
+      one-bucket-more : (t : Bool) → usedIn ks ≤ length ks → used (cond t ends pass ∷ map (λ (k : ℕ). looked (b k)) ks) ≤ suc (length ks)
+      one-bucket-more true l = omega (arith, l)
+      one-bucket-more false l = omega (arith, l)
 
   used-all : (ks : List ℕ) → All (λ (k : ℕ). NotEmpty (b k)) ks → usedIn ks ≡ length ks
   unfolding looked
@@ -127,12 +127,12 @@ module _ (b : ℕ → Bucket) where
   all-used : (ks : List ℕ) → usedIn ks ≡ length ks → All (λ (k : ℕ). NotEmpty (b k)) ks
   unfolding looked
   all-used [] e = tt
-  all-used (k ∷ ks) e = go (eqb (b k .at) 0) refl (all-used ks) e
+  all-used (k ∷ ks) e = first-used (eqb (b k .at) 0) refl (all-used ks) e
     where
-      go : (t : Bool) → eqb (b k .at) 0 ≡ t → (usedIn ks ≡ length ks → All (λ (k : ℕ). NotEmpty (b k)) ks)
+      first-used : (t : Bool) → eqb (b k .at) 0 ≡ t → (usedIn ks ≡ length ks → All (λ (k : ℕ). NotEmpty (b k)) ks)
           → used (cond t ends pass ∷ map (λ (k : ℕ). looked (b k)) ks) ≡ suc (length ks) → NotEmpty (b k) × All (λ (k : ℕ). NotEmpty (b k)) ks
-      go true p rest e = absurd (omega (arith, e, used-most ks))
-      go false p rest e = (eqb-false (b k .at) 0 p, rest (omega (arith, e)))
+      first-used true p rest e = absurd (omega (arith, e, used-most ks))
+      first-used false p rest e = (eqb-false (b k .at) 0 p, rest (omega (arith, e)))
 
 all-equal : (b d : ℕ → Bucket) (n : ℕ) → ((k : ℕ) → k < n → b k ≡ d k) → (m k : ℕ) → k < n
     → All (λ (j : ℕ). NotEmpty (b j)) (probeSequence n m k) → All (λ (j : ℕ). NotEmpty (d j)) (probeSequence n m k)
@@ -165,7 +165,12 @@ module _ {m : ℕ} {b : ℕ → Bucket} {bs : List Bucket} (slots : Filled m b b
     where
       by : 0 < m → m ≤ length bs
       by some =
-          omega (arith, counted some, used-all table ks (all-equal b table m (slots .each) m (start h m) (mod-lt (h / 256) some) all), length-probeSequence m m (start h m))
+          omega (
+            arith,
+            counted some,
+            used-all table ks (all-equal b table m (slots .each) m (start h m) (mod-lt (h / 256) some) all),
+            length-probeSequence m m (start h m),
+          )
 
   -- one is: there are fewer entries than slots
   taken : length bs ≡ m → Dec (m ≡ 0) → All (λ (j : ℕ). NotEmpty (b j)) ks
@@ -191,7 +196,8 @@ module _ {m : ℕ} {b : ℕ → Bucket} {bs : List Bucket} (slots : Filled m b b
   -- no slot of the search matches: of the entries of this hash none is equal
   pub none-equal : (v : ℕ → Bool) → length bs ≤ m → All NotEmpty bs → hasMatch b h v (probeSequence m m (start h m)) ≡ false
       → All (λ (x : Bucket). x .hash ≡ h → v (x .at) ≡ false) bs
-  none-equal v fit full none = no-match h v m bs some fit full (sym (hasMatch-equal b (λ (k : ℕ). getD (filled m bs) k empty) h v m (slots .each) m (start h m) inside) ∙ none)
+  none-equal v fit full none =
+      no-match h v m bs some fit full (sym (hasMatch-equal b (λ (k : ℕ). getD (filled m bs) k empty) h v m (slots .each) m (start h m) inside) ∙ none)
 
   -- one entry more, in the first empty slot
   pub filled-next : (x : Bucket) → x .hash ≡ h → (k : ℕ) → k ≡ firstEmpty (λ (j : ℕ). b j .at) (probeSequence m m (start h m))

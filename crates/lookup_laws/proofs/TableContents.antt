@@ -65,33 +65,33 @@ module _ (f : Bucket → Probe) (sees : EndsAtEmpty f) (n s₀ : ℕ) (inside : 
 
     good-more : (start (b .hash) n ≡ s₀) ⊎ (f b ≡ pass) → Good (view n f (insert n table b) s₀)
     good-more (inl e) = rw (own e) (own-good (view n f table s₀) (f b) (sees .takes b full) (held .good))
-    good-more (inr e) = go (any s₀ inside)
+    good-more (inr e) = first-end-set (any s₀ inside)
       where
-        go : (j : ℕ) × (getD (view n f table s₀) j pass ≡ ends) × (view n f (insert n table b) s₀ ≡ set (view n f table s₀) j (f b))
+        first-end-set : (j : ℕ) × (getD (view n f table s₀) j pass ≡ ends) × (view n f (insert n table b) s₀ ≡ set (view n f table s₀) j (f b))
             → Good (view n f (insert n table b) s₀)
-        go (j, p, q) = rw (q, e) (other-good (view n f table s₀) j p (held .good))
+        first-end-set (j, p, q) = rw (q, e) (other-good (view n f table s₀) j p (held .good))
 
     hits-more : (start (b .hash) n ≡ s₀) ⊎ (f b ≡ pass)
         → hits (view n f (insert n table b) s₀) ≡ hits (view n f table s₀) ++ hitOf (f b)
     hits-more (inl e) =
         rw (own e)
         (own-hits (view n f table s₀) (f b) (sees .takes b full) (held .good) (rw (view-length n f table s₀) (has-empty s₀ inside)))
-    hits-more (inr e) = go (any s₀ inside)
+    hits-more (inr e) = first-end-passes (any s₀ inside)
       where
-        go : (j : ℕ) × (getD (view n f table s₀) j pass ≡ ends) × (view n f (insert n table b) s₀ ≡ set (view n f table s₀) j (f b))
+        first-end-passes : (j : ℕ) × (getD (view n f table s₀) j pass ≡ ends) × (view n f (insert n table b) s₀ ≡ set (view n f table s₀) j (f b))
             → hits (view n f (insert n table b) s₀) ≡ hits (view n f table s₀) ++ hitOf (f b)
-        go (j, p, q) = rw (q, e) (other-hits (view n f table s₀) j p (held .good) ∙ sym (append-nil (hits (view n f table s₀))))
+        first-end-passes (j, p, q) = rw (q, e) (other-hits (view n f table s₀) j p (held .good) ∙ sym (append-nil (hits (view n f table s₀))))
 
     one-more : TableContents f n s₀ (insert n table b) (suc m)
     one-more = record {
       sized = length-insert n table b ∙ held .sized;
-      counts = λ s h. go s h (any s h);
+      counts = λ s h. one-more-used s h (any s h);
       good = good-more (apart b full);
     }
       where
-        go : (s : ℕ) → s < n → (j : ℕ) × (getD (view n f table s) j pass ≡ ends) × (view n f (insert n table b) s ≡ set (view n f table s) j (f b))
+        one-more-used : (s : ℕ) → s < n → (j : ℕ) × (getD (view n f table s) j pass ≡ ends) × (view n f (insert n table b) s ≡ set (view n f table s) j (f b))
             → used (view n f (insert n table b) s) ≡ suc m
-        go s h (j, p, q) = rw q (used-set (view n f table s) j (f b) (sees .takes b full) p ∙ ap suc (held .counts s h))
+        one-more-used s h (j, p, q) = rw q (used-set (view n f table s) j (f b) (sees .takes b full) p ∙ ap suc (held .counts s h))
 
   held-all : (bs table : List Bucket) (m : ℕ) → TableContents f n s₀ table m → m + length bs ≤ n → All NotEmpty bs
       → TableContents f n s₀ (insertAll n table bs) (m + length bs)

@@ -1,5 +1,6 @@
 -- A search in a filled table meets the entries, in the order in which the table took them, whose hash is the one sought and whose offset has a
--- hit; a lookup, which finds the first of them, reads at most one bucket more than there are entries, and no more than there are when it finds one. Assumes nothing.
+-- hit; a lookup, which finds the first of them, reads at most one bucket more than there are entries, and no more than there are when it finds one.
+-- Assumes nothing.
 use mathlib.Core.Path.{_≡_, refl, sym, ap, _∙_, fun-ext}
 use mathlib.Core.Bool.{Bool, true, false, cond}
 use mathlib.Core.List.{List, map}
@@ -63,12 +64,13 @@ module _ (h : ℕ) (v : ℕ → Probe) where
 
   -- where no entry ends the search, both probes agree
   noEnds : (b : Bucket) → Taken (probeWith h v b) → probeWith h (λ (o : ℕ). noEnd (v o)) b ≡ probeWith h v b
-  noEnds b t = go (eqb (b .at) 0) (eqb (b .hash) h) t
+  noEnds b t = no-end-looked (eqb (b .at) 0) (eqb (b .hash) h) t
     where
-      go : (p q : Bool) → Taken (cond p ends (cond q (v (b .at)) pass)) → cond p ends (cond q (noEnd (v (b .at))) pass) ≡ cond p ends (cond q (v (b .at)) pass)
-      go true q t = refl
-      go false true t = noEnd-same (v (b .at)) t
-      go false false t = refl
+      no-end-looked : (p q : Bool) → Taken (cond p ends (cond q (v (b .at)) pass))
+          → cond p ends (cond q (noEnd (v (b .at))) pass) ≡ cond p ends (cond q (v (b .at)) pass)
+      no-end-looked true q t = refl
+      no-end-looked false true t = noEnd-same (v (b .at)) t
+      no-end-looked false false t = refl
 
   full-bucket : (b : Bucket) → Taken (probeWith h v b) → NotEmpty b
   full-bucket b t e = rw e at t
@@ -121,7 +123,8 @@ module _ (n h : ℕ) (v : ℕ → Probe) (bs : List Bucket) (some-bucket : 0 < n
       ∙ filled-hits f (probeWith-ends h noEnds-at (λ o. noEnd-taken (v o))) n (start h n) inside (look-apart h noEnds-at n) bs room full
       ∙ ap hitsIn (map-ext f (probeWith h v) (noEnds h v) bs each)
 
-  pub searched : Searched (hitsIn (map (probeWith h v) bs)) (length bs) (matchesAlong (λ (k : ℕ). probeWith h v (getD (filled n bs) k empty)) (probeSequence n n (start h n)) 0)
+  pub searched : Searched (hitsIn (map (probeWith h v) bs)) (length bs)
+      (matchesAlong (λ (k : ℕ). probeWith h v (getD (filled n bs) k empty)) (probeSequence n n (start h n)) 0)
   unfolding seen
   searched =
       rw (matches-scan (λ (k : ℕ). probeWith h v (getD (filled n bs) k empty)) (probeSequence n n (start h n)) 0)

@@ -37,12 +37,12 @@ plain-places (suc k) n =
     (either (eqb n 0) 32 (48 + n % 10) (omega arith) (omega arith), tt)
 
 plain-shown : (b : ℕ) → Plain (shown b)
-plain-shown b = go (leb 32 b) (leb b 126) refl refl
+plain-shown b = plain-by-tests (leb 32 b) (leb b 126) refl refl
   where
-    go : (s t : Bool) → leb 32 b ≡ s → leb b 126 ≡ t → Plain (cond (s && t) b 46)
-    go true true e f = (leb-true 32 b e, leb-true b 126 f)
-    go true false e f = omega arith
-    go false t e f = omega arith
+    plain-by-tests : (s t : Bool) → leb 32 b ≡ s → leb b 126 ≡ t → Plain (cond (s && t) b 46)
+    plain-by-tests true true e f = (leb-true 32 b e, leb-true b 126 f)
+    plain-by-tests true false e f = omega arith
+    plain-by-tests false t e f = omega arith
 
 plain-all : (xs : List ℕ) → All Plain (map shown xs)
 plain-all [] = tt

@@ -2,9 +2,9 @@
 use Prim.Native.Nat.{ℕ, _+_, _*_, _-_, _^_, _≤_, _<_, min}
 use native.Mathlib.Omega.{arith}
 use native.Mathlib.Nat.{zero-add}
-use mathlib.Core.Path.{_≡_, refl, sym, ap, subst, _∙_}
+use mathlib.Core.Path.{_≡_, sym, ap, subst, _∙_}
 use mathlib.Core.Logic.{_⊎_}
-use mathlib.Core.Bool.{Bool, true, false, cond}
+use mathlib.Core.Bool.{Bool, cond}
 use mathlib.Core.List.{List, [], _∷_, _++_, append-assoc}
 use mathlib.Core.Option.{Option}
 use lib.ListN.{length, getD, take, drop, length-append}
@@ -13,6 +13,8 @@ use lib.ListN.{List·getD-append}
 use lib.Dec.{ltb}
 use borrow.Author.Tests.{le-ltb}
 use Rattle.jhash.specs.Outcome.{value, refusal}
+use Rattle.jhash.proofs.ValueOrRefusal.{no-value}
+use Rattle.image.proofs.Bools.{chose-first}
 use Rattle.image.specs.Bytes.{cat, range}
 use Rattle.image.proofs.Lists.{cat-run, length-range, getD-range}
 use Rattle.image.proofs.At.{At, at-whole, at-same, at-equal, at-part, at-take}
@@ -121,11 +123,10 @@ module _ (image out : List ℕ) where
 
   unwritten : printing image (length out) ≡ refusal 12 → afterPage image out ≡ out
   unfolding printing afterPage pageOf
-  unwritten e = go (ltb (length out) (pageLength image)) e
-    where
-      go : (t : Bool) → cond t (refusal 12) (value (pageLength image)) ≡ refusal 12 → cond t out (pageOf image ++ drop (pageLength image) out) ≡ out
-      go true e = refl
-      go false e = let z : _≡_ {A = ℕ} 0 1 = cc in absurd (omega arith)
+  unwritten e =
+      let size = pageLength image in
+      let refused = chose-first (ltb (length out) size) (refusal 12) (value size) (refusal 12) (λ z. no-value 12 size (sym z)) e in
+      ap (λ (t : Bool). cond t out (pageOf image ++ drop size out)) (refused .0)
 
 pub printed-page : PrintedPage
 printed-page =

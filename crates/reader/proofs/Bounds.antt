@@ -23,7 +23,8 @@ unfolding searchAlong
 searchAlong-reads look [] r = omega arith
 searchAlong-reads look (k ∷ ks) r = decided (look k) (searchAlong-reads look ks (r + 1))
   where
-    decided : (s : Probe) → reads (searchAlong look ks (r + 1)) ≤ r + 1 + length ks → reads (decide s (r + 1) (searchAlong look ks (r + 1))) ≤ r + suc (length ks)
+    decided : (s : Probe) → reads (searchAlong look ks (r + 1)) ≤ r + 1 + length ks
+        → reads (decide s (r + 1) (searchAlong look ks (r + 1))) ≤ r + suc (length ks)
     decided pass h = omega arith
     decided ends h = omega arith
     decided (hit x) h = omega arith

@@ -86,7 +86,7 @@ module _ (image name : List ℕ) (h o n : ℕ) where
     -- by the first offset that is 0; x, y, z are those in the first three buckets k, i, j
     pub early-miss : (i j x y z r : ℕ) → i ≡ next n k → j ≡ next n i → x ≡ offset k → y ≡ offset i → z ≡ offset j → (hash k ≡ h → ⊥) → (hash i ≡ h → ⊥)
         → FirstZero x y z r → 0 < r → searchTable image name h o n ≡ nothing r
-    early-miss i j x y z r ei ej ex ey ez d₀ d₁ = go r
+    early-miss i j x y z r ei ej ex ey ez d₀ d₁ = by-first-zero r
       where
         second : offset (next n k) ≡ y
         second = ap offset (sym ei) ∙ sym ey
@@ -94,11 +94,11 @@ module _ (image name : List ℕ) (h o n : ℕ) where
         third : offset (next n (next n k)) ≡ z
         third = ap (λ (b : ℕ). offset (next n b)) (sym ei) ∙ ap offset (sym ej) ∙ sym ez
 
-        go : (r : ℕ) → FirstZero x y z r → 0 < r → searchTable image name h o n ≡ nothing r
-        go zero f p = absurd (omega arith)
-        go (suc zero) f p = at-first (sym ex ∙ f .first refl)
-        go (suc (suc zero)) f p = let g = f .second refl in at-second d₀ (omega (arith, g .0, ex)) (second ∙ g .1)
-        go (suc (suc (suc zero))) f p =
+        by-first-zero : (r : ℕ) → FirstZero x y z r → 0 < r → searchTable image name h o n ≡ nothing r
+        by-first-zero zero f p = absurd (omega arith)
+        by-first-zero (suc zero) f p = at-first (sym ex ∙ f .first refl)
+        by-first-zero (suc (suc zero)) f p = let g = f .second refl in at-second d₀ (omega (arith, g .0, ex)) (second ∙ g .1)
+        by-first-zero (suc (suc (suc zero))) f p =
             let g = f .third refl in
             at-third d₀ (λ q. d₁ (ap hash ei ∙ q)) (omega (arith, g .0, ex)) (omega (arith, g .1, second)) (third ∙ g .2)
-        go (suc (suc (suc (suc r)))) f p = absurd (omega (arith, f .few))
+        by-first-zero (suc (suc (suc (suc r)))) f p = absurd (omega (arith, f .few))

@@ -132,7 +132,8 @@ taken-passed = record {
 own-hit : lookup ownImage (65 ∷ []) ≡ found (record { id = 5; buckets = 1; offset = 2072 })
 unfolding ownImage headOf rowOf headBytes le32 word probeBucket probeEntry same
 own-hit =
-    one-read ownImage (65 ∷ []) 2082 (hit (record { id = 5; offset = 2072 })) (lit≤ tt) (lit< tt) (ap (λ (h : ℕ). tableAt ownImage (tableOf h)) (sym hash-A)) (lit< tt)
+    one-read ownImage (65 ∷ []) 2082 (hit (record { id = 5; offset = 2072 })) (lit≤ tt) (lit< tt) (ap (λ (h : ℕ). tableAt ownImage (tableOf h)) (sym hash-A))
+    (lit< tt)
     (ap (λ (h : ℕ). bucketNumber ownImage (tableOf h)) (sym hash-A)) (lit≤ tt) (ap (λ (h : ℕ). probeBucket ownImage (65 ∷ []) h 2082) (sym hash-A))
 
 -- ---- all rows

@@ -3,7 +3,7 @@ use Prim.Native.Nat.{ℕ, suc, _+_, _*_, _-_, _/_, _≤_, _<_}
 use native.Mathlib.Omega.{arith}
 use native.Mathlib.Nat.{mod-lt}
 use mathlib.Core.Path.{_≡_, refl, sym, ap, _∙_}
-use mathlib.Core.Bool.{Bool, true, false, cond, _||_}
+use mathlib.Core.Bool.{false, cond, _||_}
 use mathlib.Core.List.{List, [], _∷_}
 use borrow.Author.Tests.{ltb-false, eqb-true, eqb-false}
 use lib.Dec.{eqb, ltb, leb}
@@ -13,9 +13,10 @@ use Rattle.image.specs.Bytes.{word, same}
 use Rattle.image.specs.Tables.{tableOf, start, probeSequence}
 use Rattle.image.specs.Head.{tableAt, bucketNumber, tablePastEnd}
 use Rattle.image.specs.Stored.{nameAt, broken}
-use Rattle.image.proofs.Bools.{or-false-first, or-false-second}
+use Rattle.image.proofs.Bools.{or-false-first, or-false-second, chose-first, chose-second}
 use Rattle.image.proofs.Equal.{same-true}
-use Rattle.reader.specs.Lookup.{found, nothing, Hit, hitAt, Probe, pass, ends, hit, probeEntry, probeBucket, decide, searchAlong, searchTable, unsearched, lookupHash, lookup}
+use Rattle.reader.specs.Lookup.{found, nothing, Hit, hitAt, Probe, pass, ends, hit, probeEntry, probeBucket, decide, searchAlong, searchTable}
+use Rattle.reader.specs.Lookup.{unsearched, lookupHash, lookup}
 use Rattle.reader.specs.declared.Found.{Found}
 use Rattle.reader.specs.theorems.FoundAt.{bucketRead, FoundInTable, FoundAt, FoundAtOffset}
 use Rattle.image.proofs.Buckets.{length-probeSequence}
@@ -43,31 +44,22 @@ record Sighted (image name : List ℕ) (h b : ℕ) (t : Hit) : Type 0 where
 
 sighted : (image name : List ℕ) (h b : ℕ) (t : Hit) → probeBucket image name h b ≡ hit t → Sighted image name h b t
 unfolding probeBucket probeEntry
-sighted image name h b t e = by-offset (eqb at 0) e
-  where
-    at : ℕ
-    at = word image (b + 4)
-
-    by-name : (s : Bool) → same (nameAt image at) name ≡ s → word image b ≡ h → broken image at ≡ false
-        → cond s (hit (hitAt image at)) pass ≡ hit t → Sighted image name h b t
-    by-name true p q w e =
-        let i : word image at ≡ t .id = cc in
-        let o : at ≡ t .offset = cc in
-        record { hash = q; offset = o; unbroken = w; name-there = same-true (nameAt image at) name p; id-there = i }
-    by-name false p q w e = pass-no-hit t e
-
-    by-entry : (x : Bool) → broken image at ≡ x → word image b ≡ h
-        → cond x ends (cond (same (nameAt image at) name) (hit (hitAt image at)) pass) ≡ hit t → Sighted image name h b t
-    by-entry true p q e = ends-no-hit t e
-    by-entry false p q e = by-name (same (nameAt image at) name) refl q p e
-
-    by-hash : (s : Bool) → eqb (word image b) h ≡ s → cond s (probeEntry image name at) pass ≡ hit t → Sighted image name h b t
-    by-hash true p e = by-entry (broken image at) refl (eqb-true (word image b) h p) e
-    by-hash false p e = pass-no-hit t e
-
-    by-offset : (z : Bool) → cond z ends (cond (eqb (word image b) h) (probeEntry image name at) pass) ≡ hit t → Sighted image name h b t
-    by-offset true e = ends-no-hit t e
-    by-offset false e = by-hash (eqb (word image b) h) refl e
+sighted image name h b t e =
+    let at = word image (b + 4) in
+    let of-name = cond (same (nameAt image at) name) (hit (hitAt image at)) pass in
+    let used = chose-second (eqb at 0) ends (cond (eqb (word image b) h) (probeEntry image name at) pass) (hit t) (ends-no-hit t) e in
+    let hashed = chose-first (eqb (word image b) h) (probeEntry image name at) pass (hit t) (pass-no-hit t) (used .1) in
+    let whole = chose-second (broken image at) ends of-name (hit t) (ends-no-hit t) (hashed .1) in
+    let named = chose-first (same (nameAt image at) name) (hit (hitAt image at)) pass (hit t) (pass-no-hit t) (whole .1) in
+    let i : word image at ≡ t .id = cc (named .1) in
+    let o : at ≡ t .offset = cc (named .1) in
+    record {
+      hash = eqb-true (word image b) h (hashed .0);
+      offset = o;
+      unbroken = whole .0;
+      name-there = same-true (nameAt image at) name (named .0);
+      id-there = i;
+    }
 
 -- ---- the bucket that decides a search
 
@@ -119,32 +111,20 @@ module _ (image name : List ℕ) (f : Found) where
 
   pub found-at : lookup image name ≡ found f → FoundAt image name f
   unfolding lookup lookupHash
-  found-at e = by-image (ltb (length image) 2072) e
-    where
-      t : ℕ
-      t = tableOf (hashOf name)
-
-      o : ℕ
-      o = tableAt image t
-
-      n : ℕ
-      n = bucketNumber image t
-
-      by-row : (b : Bool) → unsearched image t ≡ b → cond b (nothing 0) (searchTable image name (hashOf name) o n) ≡ found f → FoundAt image name f
-      by-row true p e = not-found 0 f e
-      by-row false p e =
-          let some-bucket = eqb-false n 0 (or-false-second (eqb o 0) (eqb n 0) (or-false-first (eqb o 0 || eqb n 0) (tablePastEnd image t) p)) in
-          let fits = ltb-false (length image) (o + 8 * n) (or-false-second (eqb o 0 || eqb n 0) (tablePastEnd image t) p) in
-          in-search o n (omega arith) fits e
-
-      by-length : (b : Bool) → cond b (nothing 0) (lookupHash image name (hashOf name)) ≡ found f → FoundAt image name f
-      by-length true e = not-found 0 f e
-      by-length false e = by-row (unsearched image t) refl e
-
-      by-image : (b : Bool) → cond b (nothing 0) (cond (leb 4294967295 (length name)) (nothing 0) (lookupHash image name (hashOf name))) ≡ found f
-          → FoundAt image name f
-      by-image true e = not-found 0 f e
-      by-image false e = by-length (leb 4294967295 (length name)) e
+  found-at e =
+      let t = tableOf (hashOf name) in
+      let o = tableAt image t in
+      let n = bucketNumber image t in
+      let by-hash = lookupHash image name (hashOf name) in
+      let long = leb 4294967295 (length name) in
+      let in-image = chose-second (ltb (length image) 2072) (nothing 0) (cond long (nothing 0) by-hash) (found f) (not-found 0 f) e in
+      let hashed = chose-second long (nothing 0) by-hash (found f) (not-found 0 f) (in-image .1) in
+      let in-table = searchTable image name (hashOf name) o n in
+      let searched = chose-second (unsearched image t) (nothing 0) in-table (found f) (not-found 0 f) (hashed .1) in
+      let row = or-false-first (eqb o 0 || eqb n 0) (tablePastEnd image t) (searched .0) in
+      let some-bucket = eqb-false n 0 (or-false-second (eqb o 0) (eqb n 0) row) in
+      let fits = ltb-false (length image) (o + 8 * n) (or-false-second (eqb o 0 || eqb n 0) (tablePastEnd image t) (searched .0)) in
+      in-search o n (omega arith) fits (searched .1)
 
 pub found-at-offset : FoundAtOffset
 found-at-offset = found-at

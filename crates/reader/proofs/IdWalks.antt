@@ -24,11 +24,11 @@ step-unnamed image n e = ap (stepOf n) e
 
 step-named : (image : List ℕ) (n : ℕ) → (naming image n ≡ unnamed → ⊥) → nextAfter n (step image n) ≡ n + 1
 unfolding step
-step-named image n h = go (naming image n) refl
+step-named image n h = next-by-naming (naming image n) refl
   where
-    go : (m : Naming) → naming image n ≡ m → nextAfter n (stepOf n m) ≡ n + 1
-    go (place s l) e = refl
-    go unnamed e = absurd (h e)
+    next-by-naming : (m : Naming) → naming image n ≡ m → nextAfter n (stepOf n m) ≡ n + 1
+    next-by-naming (place s l) e = refl
+    next-by-naming unnamed e = absurd (h e)
 
 -- ---- it ends for good
 
@@ -74,11 +74,11 @@ unnamed? (place s n) = no (λ e. never s n (sym e))
 unnamed? unnamed = yes refl
 
 has-name : (image : List ℕ) (i : ℕ) → (naming image i ≡ unnamed → ⊥) → (noBack image ≡ false) × (i < backSizeAt image)
-has-name image i h = go (naming image i) refl
+has-name image i h = listed-by-naming (naming image i) refl
   where
-    go : (m : Naming) → naming image i ≡ m → (noBack image ≡ false) × (i < backSizeAt image)
-    go (place s l) e = let p = named image i s l e in (p .array, p .below)
-    go unnamed e = absurd (h e)
+    listed-by-naming : (m : Naming) → naming image i ≡ m → (noBack image ≡ false) × (i < backSizeAt image)
+    listed-by-naming (place s l) e = let p = named image i s l e in (p .array, p .below)
+    listed-by-naming unnamed e = absurd (h e)
 
 -- the first among m ids from n on, where those before n have names
 ends-from : (image : List ℕ) (m n : ℕ) → n + m ≡ backSizeAt image → ((i : ℕ) → i < n → naming image i ≡ unnamed → ⊥) → Ends image

@@ -1,14 +1,14 @@
 -- Naming: what is known where the back array can be read, and where a name has its place. Assumes nothing.
 use Prim.Native.Nat.{ℕ, _+_, _*_, _-_, _≤_, _<_}
 use native.Mathlib.Omega.{arith}
-use mathlib.Core.Path.{_≡_, refl, sym, ap, _∙_}
+use mathlib.Core.Path.{_≡_, sym, ap, _∙_}
 use mathlib.Core.Bool.{Bool, true, false, cond, _||_}
 use mathlib.Core.List.{List}
 use borrow.Author.Tests.{ltb-false, leb-false}
 use lib.Dec.{eqb, ltb, leb}
 use lib.ListN.{length}
 use Rattle.image.specs.Bytes.{word}
-use Rattle.image.proofs.Bools.{or-false-first, or-false-second}
+use Rattle.image.proofs.Bools.{or-false-first, or-false-second, chose-second}
 use Rattle.image.specs.Head.{backSizeAt, backOffsetAt, backPastEnd}
 use Rattle.image.specs.Stored.{broken}
 use Rattle.reader.specs.Slices.{Slice, subslice}
@@ -59,27 +59,17 @@ never s n e = let z : _≡_ {A = ℕ} 0 1 = cc in absurd (omega arith)
 
 pub named : (image : List ℕ) (id s n : ℕ) → naming image id ≡ place s n → HasPlace image id s n
 unfolding naming namingAt
-named image id s n e = backed (noBack image) refl e
-  where
-    at : ℕ
-    at = word image (backOffsetAt image + 4 * id)
-
-    placed : (t : Bool) → (eqb at 0 || broken image at) ≡ t → noBack image ≡ false → id < backSizeAt image
-        → cond t unnamed (place (at + 8) (word image (at + 4) - 1)) ≡ place s n → HasPlace image id s n
-    placed true p a l e = never s n e
-    placed false p a l e =
-        let w = unbroken image at (or-false-second (eqb at 0) (broken image at) p) in
-        let es : at + 8 ≡ s = cc in
-        let en : word image (at + 4) - 1 ≡ n = cc in
-        record { array = a; below = l; inside = omega (arith, w .name) }
-
-    below : (t : Bool) → leb (backSizeAt image) id ≡ t → noBack image ≡ false → cond t unnamed (namingAt image at) ≡ place s n → HasPlace image id s n
-    below true p a e = never s n e
-    below false p a e = placed (eqb at 0 || broken image at) refl a (leb-false (backSizeAt image) id p) e
-
-    backed : (t : Bool) → noBack image ≡ t → cond t unnamed (cond (leb (backSizeAt image) id) unnamed (namingAt image at)) ≡ place s n → HasPlace image id s n
-    backed true p e = never s n e
-    backed false p e = below (leb (backSizeAt image) id) refl p e
+named image id s n e =
+    let at = word image (backOffsetAt image + 4 * id) in
+    let behind = leb (backSizeAt image) id in
+    let array = chose-second (noBack image) unnamed (cond behind unnamed (namingAt image at)) (place s n) (never s n) e in
+    let below = chose-second behind unnamed (namingAt image at) (place s n) (never s n) (array .1) in
+    let entry = place (at + 8) (word image (at + 4) - 1) in
+    let there = chose-second (eqb at 0 || broken image at) unnamed entry (place s n) (never s n) (below .1) in
+    let w = unbroken image at (or-false-second (eqb at 0) (broken image at) (there .0)) in
+    let es : at + 8 ≡ s = cc (there .1) in
+    let en : word image (at + 4) - 1 ≡ n = cc (there .1) in
+    record { array = array .0; below = leb-false (backSizeAt image) id (below .0); inside = omega (arith, w .name) }
 
 -- the part of the image that a reading x gives, by its start and end
 pub named-slice : (image other : Slice) (x : Naming) (s n : ℕ) → place s n ≡ x → subslice image s (s + n - s) ≡ sliceOr image other x

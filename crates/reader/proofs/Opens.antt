@@ -83,7 +83,8 @@ unfolding somePastEnd
 past-end-none image t = refl
 
 -- a sum modulo 2^32 takes one more, and at its end is the whole
-pub sum-step : (k half r rest now all : ℕ) → (k + now) % 2 ^ 32 ≡ all % 2 ^ 32 → now ≡ half + rest → r ≡ (k + half) % 2 ^ 32 → (r + rest) % 2 ^ 32 ≡ all % 2 ^ 32
+pub sum-step : (k half r rest now all : ℕ) → (k + now) % 2 ^ 32 ≡ all % 2 ^ 32 → now ≡ half + rest → r ≡ (k + half) % 2 ^ 32
+    → (r + rest) % 2 ^ 32 ≡ all % 2 ^ 32
 sum-step k half r rest now all e f g = omega arith
 
 pub sum-end : (k now all : ℕ) → k < 2 ^ 32 → (k + now) % 2 ^ 32 ≡ all % 2 ^ 32 → now ≡ 0 → k ≡ all % 2 ^ 32

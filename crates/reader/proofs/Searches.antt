@@ -13,7 +13,8 @@ use Rattle.image.specs.Bytes.{word, same}
 use Rattle.image.specs.Tables.{tableOf, start, next, probeSequence}
 use Rattle.image.specs.Head.{tableAt, bucketNumber}
 use Rattle.image.specs.Stored.{nameAt, broken}
-use Rattle.reader.specs.Lookup.{Lookup, nothing, Probe, pass, ends, hit, hitAt, probeEntry, probeBucket, decide, searchAlong, unsearched, searchTable, lookupHash, lookupBy, lookup}
+use Rattle.reader.specs.Lookup.{Lookup, nothing, Probe, pass, ends, hit, hitAt, probeEntry, probeBucket, decide, searchAlong, unsearched}
+use Rattle.reader.specs.Lookup.{searchTable, lookupHash, lookupBy, lookup}
 use Rattle.reader.specs.steps.Resume.{searchRest, bucketAfter, searchFrom, lookupFrom}
 
 -- ---- the probe of an entry and of a bucket
@@ -96,11 +97,11 @@ module _ {image : List ℕ} {h at n : ℕ} (row : Row image h at n) where
   unread-number o e = by-tests false true _ (ne-eqb at 0 o) (eq-eqb n 0 e) refl
 
   pub unread-past-end : (at ≡ 0 → ⊥) → length image < at + 8 * n → unsearched image (tableOf h) ≡ true
-  unread-past-end o out = go (eqb n 0) refl
+  unread-past-end o out = unread-by-size (eqb n 0) refl
     where
-      go : (y : Bool) → eqb n 0 ≡ y → unsearched image (tableOf h) ≡ true
-      go true ey = by-tests false true _ (ne-eqb at 0 o) ey refl
-      go false ey = by-tests false false true (ne-eqb at 0 o) ey (lt-ltb (length image) (at + 8 * n) out)
+      unread-by-size : (y : Bool) → eqb n 0 ≡ y → unsearched image (tableOf h) ≡ true
+      unread-by-size true ey = by-tests false true _ (ne-eqb at 0 o) ey refl
+      unread-by-size false ey = by-tests false false true (ne-eqb at 0 o) ey (lt-ltb (length image) (at + 8 * n) out)
 
   pub read-table : (at ≡ 0 → ⊥) → 0 < n → at + 8 * n ≤ length image → unsearched image (tableOf h) ≡ false
   read-table o some inside =
@@ -112,7 +113,8 @@ pub lookup-unread : (image name : List ℕ) (h : ℕ) → unsearched image (tabl
 unfolding lookupHash
 lookup-unread image name h e = rw e
 
-pub lookup-read : (image name : List ℕ) (h at n : ℕ) → unsearched image (tableOf h) ≡ false → at ≡ tableAt image (tableOf h) → n ≡ bucketNumber image (tableOf h)
+pub lookup-read : (image name : List ℕ) (h at n : ℕ) → unsearched image (tableOf h) ≡ false → at ≡ tableAt image (tableOf h)
+    → n ≡ bucketNumber image (tableOf h)
     → searchTable image name h at n ≡ lookupHash image name h
 unfolding lookupHash
 lookup-read image name h at n e ea en = rw e (ap₂ (searchTable image name h) ea en)
@@ -140,12 +142,12 @@ lookup-with image name h s l es el = sym (λ i. cond (es i) (nothing 0) (cond (e
 -- it is the lookup, where the hash of a name that is not too long is its own
 pub lookup-own : (image name : List ℕ) (h : ℕ) → (length name < 4294967295 → h ≡ hashOf name) → lookupBy image name h ≡ lookup image name
 unfolding lookupBy lookup
-lookup-own image name h e = ap (λ (x : Lookup). cond (ltb (length image) 2072) (nothing 0) x) (go (leb 4294967295 (length name)) refl)
+lookup-own image name h e = ap (λ (x : Lookup). cond (ltb (length image) 2072) (nothing 0) x) (same-by-length (leb 4294967295 (length name)) refl)
   where
-    go : (t : Bool) → leb 4294967295 (length name) ≡ t
+    same-by-length : (t : Bool) → leb 4294967295 (length name) ≡ t
         → cond t (nothing 0) (lookupHash image name h) ≡ cond t (nothing 0) (lookupHash image name (hashOf name))
-    go true q = refl
-    go false q = ap (lookupHash image name) (e (leb-false 4294967295 (length name) q))
+    same-by-length true q = refl
+    same-by-length false q = ap (lookupHash image name) (e (leb-false 4294967295 (length name) q))
 
 -- ---- the rest of a lookup after c buckets
 
@@ -153,7 +155,8 @@ pub from-unread : (image name : List ℕ) (h c : ℕ) → unsearched image (tabl
 unfolding searchFrom
 from-unread image name h c e = rw e
 
-pub from-read : (image name : List ℕ) (h c at n : ℕ) → unsearched image (tableOf h) ≡ false → at ≡ tableAt image (tableOf h) → n ≡ bucketNumber image (tableOf h)
+pub from-read : (image name : List ℕ) (h c at n : ℕ) → unsearched image (tableOf h) ≡ false → at ≡ tableAt image (tableOf h)
+    → n ≡ bucketNumber image (tableOf h)
     → searchRest image name h at n (bucketAfter h n c) (n - c) ≡ searchFrom image name h c
 unfolding searchFrom
 from-read image name h c at n e ea en = rw e (λ i. searchRest image name h (ea i) (en i) (bucketAfter h (en i) c) (en i - c))
@@ -186,11 +189,11 @@ module _ (image name : List ℕ) (h : ℕ) where
       (λ i. searchRest image name h o size (x i % size) (f i)) ∙ rest-start image name h o size
 
   pub from-start : searchFrom image name h 0 ≡ lookupHash image name h
-  from-start = go (unsearched image (tableOf h)) refl
+  from-start = by-searched (unsearched image (tableOf h)) refl
     where
-      go : (t : Bool) → unsearched image (tableOf h) ≡ t → searchFrom image name h 0 ≡ lookupHash image name h
-      go true e = sym (from-unread image name h 0 e) ∙ lookup-unread image name h e
-      go false e = sym (from-read image name h 0 o size e refl refl) ∙ all-left ∙ lookup-read image name h o size e refl refl
+      by-searched : (t : Bool) → unsearched image (tableOf h) ≡ t → searchFrom image name h 0 ≡ lookupHash image name h
+      by-searched true e = sym (from-unread image name h 0 e) ∙ lookup-unread image name h e
+      by-searched false e = sym (from-read image name h 0 o size e refl refl) ∙ all-left ∙ lookup-read image name h o size e refl refl
 
 pub from-by : (image name : List ℕ) (h c : ℕ) (s l : Bool) → ltb (length image) 2072 ≡ s → leb 4294967295 (length name) ≡ l
     → cond s (nothing 0) (cond l (nothing 0) (searchFrom image name h c)) ≡ lookupFrom image name h c
@@ -201,10 +204,10 @@ from-by image name h c s l es el = sym (λ i. cond (es i) (nothing 0) (cond (el 
 pub from-whole : (image name : List ℕ) (h c : ℕ) → (2072 ≤ length image → searchFrom image name h c ≡ lookupHash image name h)
     → lookupFrom image name h c ≡ lookupBy image name h
 unfolding lookupFrom lookupBy
-from-whole image name h c e = go (ltb (length image) 2072) refl
+from-whole image name h c e = whole-by-length (ltb (length image) 2072) refl
   where
-    go : (t : Bool) → ltb (length image) 2072 ≡ t
+    whole-by-length : (t : Bool) → ltb (length image) 2072 ≡ t
         → cond t (nothing 0) (cond (leb 4294967295 (length name)) (nothing 0) (searchFrom image name h c))
         ≡ cond t (nothing 0) (cond (leb 4294967295 (length name)) (nothing 0) (lookupHash image name h))
-    go true q = refl
-    go false q = ap (cond (leb 4294967295 (length name)) (nothing 0)) (e (ltb-false (length image) 2072 q))
+    whole-by-length true q = refl
+    whole-by-length false q = ap (cond (leb 4294967295 (length name)) (nothing 0)) (e (ltb-false (length image) 2072 q))

@@ -4,7 +4,7 @@ use native.Mathlib.Omega.{arith}
 use native.Mathlib.Nat.{zero-add}
 use native.Mathlib.Numerals.{towards-suc}
 use mathlib.Core.Path.{_≡_, refl, sym, ap, _∙_}
-use mathlib.Core.Bool.{Bool, true, false, cond, _||_}
+use mathlib.Core.Bool.{Bool, false, cond, _||_}
 use mathlib.Core.List.{List, _∷_, _++_}
 use borrow.Author.Tests.{le-ltb}
 use lib.Dec.{ltb}
@@ -14,6 +14,8 @@ use Rattle.image.specs.Bytes.{le32, cat}
 use Rattle.image.proofs.Words.{length-le32}
 use Rattle.image.proofs.Stores.{sets-then}
 use Rattle.jhash.specs.Outcome.{Outcome, value, refusal}
+use Rattle.jhash.proofs.ValueOrRefusal.{no-value, same-value}
+use Rattle.image.proofs.Bools.{chose-second}
 use Rattle.sheet.specs.Format.{countBytes, idBytes, sectionBytes, Lists, sheetBytes}
 use Rattle.sheet.specs.SheetWriting.{passes, tooLong, writing, leftByWriter, afterWriting}
 use Rattle.sheet.specs.theorems.RoundSheet.{Fits}
@@ -41,11 +43,9 @@ module _ (room : ℕ) (l : Lists) where
   -- a length that was given is that of the file
   pub given-length : (n : ℕ) → writing room l ≡ value n → n ≡ length (sheetBytes l)
   unfolding writing
-  given-length n e = by (tooLong l || ltb room (length (sheetBytes l))) e
-    where
-      by : (t : Bool) → cond t (refusal 21) (value (length (sheetBytes l))) ≡ value n → n ≡ length (sheetBytes l)
-      by true e = let z : _≡_ {A = ℕ} 0 1 = cc in absurd (omega arith)
-      by false e = cc
+  given-length n e =
+      let size = length (sheetBytes l) in
+      sym (same-value size n (chose-second (tooLong l || ltb room size) (refusal 21) (value size) (value n) (no-value 21 n) e .1))
 
 module _ (buf : List ℕ) (l : Lists) where
   pub left : (o : Outcome ℕ) → o ≡ writing (length buf) l → leftByWriter buf l o ≡ afterWriting buf l

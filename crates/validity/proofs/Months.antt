@@ -88,11 +88,11 @@ module _ (m : ℕ) (no-31 : ¬ OneOf (1 ∷ 3 ∷ 5 ∷ 10 ∷ 12 ∷ []) m) (no
 
 -- ---- the lengths run from 28 to 31
 hit-or-miss : (ks : List ℕ) (m : ℕ) → OneOf ks m ⊎ (¬ OneOf ks m)
-hit-or-miss ks m = go (hasKey ks m) refl
+hit-or-miss ks m = by-key (hasKey ks m) refl
   where
-    go : (t : Bool) → hasKey ks m ≡ t → OneOf ks m ⊎ (¬ OneOf ks m)
-    go true e = inl (hit ks m (subst Active (sym e) tt))
-    go false e = inr (miss ks m (subst (λ (b : Bool). Active (not b)) (sym e) tt))
+    by-key : (t : Bool) → hasKey ks m ≡ t → OneOf ks m ⊎ (¬ OneOf ks m)
+    by-key true e = inl (hit ks m (subst Active (sym e) tt))
+    by-key false e = inr (miss ks m (subst (λ (b : Bool). Active (not b)) (sym e) tt))
 
 within : (year m : ℕ) (k : ℕ) → k ≡ monthLength year m → 28 ≤ k → k ≤ 31 → (28 ≤ monthLength year m) × (monthLength year m ≤ 31)
 within year m k e low high = (omega arith, omega arith)

@@ -249,7 +249,8 @@ module _ (R : Lft → RattleType) where
             (and-then ! (load ! (from ! (stop !)) (look ! 5 refl)) (no-more !)))) (λ u.
             use1 W (later (some (λ (r : WindowState). ((‵ (flft ρ s) ⊛ ‵ ftrue) ⊛ ‵ (S.the-row .own r (u ∷ []))) ⊛ raw (Stood r)))) (id⊢ 𝓤 _) $
             await ! tt $ pick ! (λ r.
-            split ! $ move ! (1 ∷ []) $ use1 W (raw (fact 𝓤 (r ≡ windowState id date (y .now)))) (state-found r) $ heard ! (r ≡ windowState id date (y .now)) (λ e.
+            split ! $ move ! (1 ∷ []) $ use1 W (raw (fact 𝓤 (r ≡ windowState id date (y .now)))) (state-found r) $
+            heard ! (r ≡ windowState id date (y .now)) (λ e.
             split ! $ move ! (1 ∷ []) $ facts ! S.the-row (Is S.the-row) (shows 𝓤 H A S.the-row) r (u ∷ []) (λ is.
             split ! $ move ! (1 ∷ []) $ drops ! $
             land ! (from ! (stop !)) (init ! 1 refl (EL.lawful S.the-type S′.the-laws 𝓤 H A W tt .typed r _ is .0)) $

@@ -6,9 +6,11 @@ use native.Mathlib.Omega.{arith}
 use mathlib.Core.Bool.{Bool, true, false, cond, not, _&&_, _||_, true≢false}
 use mathlib.Core.List.{List, [], _∷_, _++_}
 use mathlib.Core.Option.{none, some}
-use borrow.Author.Tests.{eqb-true, eq-eqb}
+use borrow.Author.Tests.{eqb-true, eq-eqb, not-true}
 use lib.Dec.{eqb}
 use Rattle.jhash.specs.Outcome.{Outcome, value, refusal}
+use Rattle.jhash.proofs.ValueOrRefusal.{no-value, same-refusal}
+use Rattle.image.proofs.Bools.{and-first, and-second}
 use Rattle.reader.specs.Naming.{Naming, place, unnamed, naming}
 use Rattle.reader.proofs.Namings.{never}
 use Rattle.validity.specs.Calendar.{isDate, isEnd, earlier}
@@ -84,17 +86,17 @@ holds-exactly : (id : ℕ) (date : Date) (w : Window)
 unfolding holdsDate
 holds-exactly id date w = (to, from)
   where
-    by-tests : (i p q : Bool) → (i && not p && q) ≡ true → (i ≡ true) × (p ≡ false) × (q ≡ true)
-    by-tests true false true e = (refl, refl, refl)
-    by-tests true false false e = absurd (true≢false (sym e))
-    by-tests true true q e = absurd (true≢false (sym e))
-    by-tests false p q e = absurd (true≢false (sym e))
-
     to : (eqb (w .id) id && not (earlier date (w .first)) && earlier date (w .end)) ≡ true
         → (w .id ≡ id) × (earlier date (w .first) ≡ false) × (earlier date (w .end) ≡ true)
     to e =
-        let t = by-tests (eqb (w .id) id) (earlier date (w .first)) (earlier date (w .end)) e in
-        (eqb-true (w .id) id (t .0), t .1, t .2)
+        let own = eqb (w .id) id in
+        let begun = not (earlier date (w .first)) in
+        let unended = earlier date (w .end) in
+        let both = and-first (own && begun) unended e in (
+          eqb-true (w .id) id (and-first own begun both),
+          not-true (earlier date (w .first)) (and-second own begun both),
+          and-second (own && begun) unended e,
+        )
 
     from : (w .id ≡ id) × (earlier date (w .first) ≡ false) × (earlier date (w .end) ≡ true)
         → (eqb (w .id) id && not (earlier date (w .first)) && earlier date (w .end)) ≡ true
@@ -105,20 +107,14 @@ module _ (n : Naming) where
   abbrev by : Bool → Bool → Bool → Bool → Outcome Naming
   by t a b c = cond (not t) (refusal 22) (cond a (refusal 22) (cond b (refusal 23) (value (cond c n unnamed))))
 
-  no-value : {P : Type 0} (k s l : ℕ) → _≡_ {A = Outcome Naming} (refusal k) (value (place s l)) → P
-  no-value k s l e = let z : _≡_ {A = ℕ} 0 1 = cc in absurd (omega arith)
-
-  no-refusal : {P : Type 0} (k : ℕ) (m : Naming) → _≡_ {A = Outcome Naming} (value m) (refusal k) → P
-  no-refusal k m e = let z : _≡_ {A = ℕ} 0 1 = cc in absurd (omega arith)
-
   another : {P : Type 0} → _≡_ {A = Outcome Naming} (refusal 22) (refusal 23) → P
-  another e = let z : _≡_ {A = ℕ} 22 23 = cc in absurd (omega arith)
+  another e = let z = same-refusal 22 23 e in absurd (omega arith)
 
   named : (s l : ℕ) (t a b c : Bool) → by t a b c ≡ value (place s l)
       → ((t ≡ true) × (a ≡ false) × (b ≡ false)) × (n ≡ place s l) × (c ≡ true)
-  named s l false a b c e = no-value 22 s l e
-  named s l true true b c e = no-value 22 s l e
-  named s l true false true c e = no-value 23 s l e
+  named s l false a b c e = absurd (no-value 22 (place s l) e)
+  named s l true true b c e = absurd (no-value 22 (place s l) e)
+  named s l true false true c e = absurd (no-value 23 (place s l) e)
   named s l true false false true e = ((refl, refl, refl), cc, refl)
   named s l true false false false e = let u : unnamed ≡ place s l = cc in never s l u
 
@@ -126,7 +122,7 @@ module _ (n : Naming) where
   two false a b c e = inl refl
   two true true b c e = inr refl
   two true false true c e = another (sym e)
-  two true false false c e = no-refusal 22 (cond c n unnamed) e
+  two true false false c e = absurd (no-value 22 (cond c n unnamed) (sym e))
 
   so-two : (t a b c : Bool) → (t ≡ false) ⊎ (a ≡ true) → by t a b c ≡ refusal 22
   so-two false a b c d = refl
@@ -138,7 +134,7 @@ module _ (n : Naming) where
   three false a b c e = another e
   three true true b c e = another e
   three true false true c e = (refl, refl, refl)
-  three true false false c e = no-refusal 23 (cond c n unnamed) e
+  three true false false c e = absurd (no-value 23 (cond c n unnamed) (sym e))
 
 module _ (image : List ℕ) (id : ℕ) (date : Date) (ws : List Window) where
   abbrev t : Bool

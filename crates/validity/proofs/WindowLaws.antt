@@ -1,7 +1,7 @@
 -- The rule over lists of windows, and the fold that computes it. Assumes nothing.
-use mathlib.Core.Path.{_≡_, refl, ap, _∙_}
+use mathlib.Core.Path.{_≡_, refl, sym, ap, _∙_}
 use Prim.Native.Nat.{ℕ, suc, _<_, _≤_}
-use mathlib.Core.Bool.{Bool, true, false, cond, not, _||_}
+use mathlib.Core.Bool.{Bool, true, false, cond, not, _||_, or-assoc, or-false}
 use mathlib.Core.List.{List, [], _∷_}
 use lib.ListN.{length, getD, drop, drop-of-length-le}
 use lib.Seq.{drop-cons}
@@ -40,19 +40,11 @@ joined false false false false true f = refl
 joined false false false false false true = refl
 joined false false false false false false = refl
 
-or-assoc : (a b c : Bool) → ((a || b) || c) ≡ (a || (b || c))
-or-assoc true b c = refl
-or-assoc false b c = refl
-
 module _ (id : ℕ) (date : Date) where
-  none-more : (a : Bool) → a ≡ (a || false)
-  none-more true = refl
-  none-more false = refl
-
   folded-form : (a b c : Bool) (ws : List Window)
       → folded id date (form a b c) ws ≡ form (a || someWindow invalidDates ws) (b || someWindow inverted ws) (c || someWindow (holdsDate id date) ws)
   unfolding folded someWindow oneWindowState
-  folded-form a b c [] = λ i. form (none-more a i) (none-more b i) (none-more c i)
+  folded-form a b c [] = sym (λ i. form (or-false a i) (or-false b i) (or-false c i))
   folded-form a b c (w ∷ ws) =
       ap (λ (s : WindowState). folded id date s ws) (stepped-form w)
       ∙ folded-form (a || invalidDates w) (b || inverted w) (c || holdsDate id date w) ws

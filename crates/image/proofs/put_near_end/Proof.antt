@@ -25,7 +25,8 @@ returns c =
     let last = c .before .before in
     let a = start (first (second (third last))) .args in
     let e : last .put-byte4 .last .0
-    ≡ set (set (set (set (a .buf .now) (a .at) (a .v % 256)) (a .at + 1) (a .v / 256 % 256)) (a .at + 2) (a .v / 65536 % 256)) (a .at + 3) (a .v / 16777216 % 256)
+    ≡ set (set (set (set (a .buf .now) (a .at) (a .v % 256)) (a .at + 1) (a .v / 256 % 256)) (a .at + 2) (a .v / 65536 % 256)) (a .at + 3)
+    (a .v / 16777216 % 256)
     = cc in
     e ∙ stored (a .buf .now) (a .at) (a .v)
 

@@ -7,7 +7,8 @@ use Rattle.jhash.proofs.added_block.Tie as tie
 
 returns : tie.Need-returns
 returns c =
-    words-added (c .before .before .before .before .before .args .w) (now (c .before .before .before .before .before .args .s))
+    let a = c .before .before .before .before .before .args in
+    words-added (a .w) (now (a .s))
     (c .before .before .before .word .ensures)
     (c .before .before .word2 .ensures)
     (c .before .word3 .ensures)

@@ -30,11 +30,12 @@ loop-less c = simp (length-take, length-drop) (omega arith)
 
 loop-again : tie.Need-loop-again Inv-loop μ-loop
 loop-again c =
-    let t : List ℕ = c .before .before .before .before .loop .t .now in
-    let w : Words = c .before .before .before .before .loop .words in
+    let turn = c .before .before .before .before .loop in
+    let t : List ℕ = turn .t .now in
+    let w : Words = turn .words in
     let e : c .before .jhash-mix .result ≡ mix (added w t) = c .before .jhash-mix .ensures ∙ ap mix (c .before .before .added-block .ensures) in
     rw (take-all (length t - 12) (drop 12 t) (simp length-drop (omega arith)), e)
-    (block-step w t (c .before .before .before .loop-test .taken) ∙ c .before .before .before .before .loop .inv)
+    (block-step w t (c .before .before .before .loop-test .taken) ∙ turn .inv)
 
 returns : tie.Need-returns Inv-loop μ-loop
 returns c =

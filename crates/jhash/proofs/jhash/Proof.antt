@@ -6,16 +6,21 @@ use Rattle.jhash.proofs.jhash.Statement.{statement}
 use Rattle.jhash.proofs.jhash.Tie as tie
 
 returns : tie.Need-returns
-returns c = refuses (now (c .before .before .before .args .name)) (c .before .before .before .args .initval) (c .before .too-long .result) (c .before .too-long .ensures) (c .if1 .taken)
+returns c =
+    let a = c .before .before .before .args in
+    refuses (now (a .name)) (a .initval) (c .before .too-long .result) (c .before .too-long .ensures) (c .if1 .taken)
 
 initial-word-requires : tie.Need-initial-word-requires
-initial-word-requires c κs = short (now (c .before .before .before .args .name)) (c .before .before .before .args .initval) (c .before .too-long .result) (c .before .too-long .ensures) (c .if1 .left)
+initial-word-requires c κs =
+    let a = c .before .before .before .args in
+    short (now (a .name)) (a .initval) (c .before .too-long .result) (c .before .too-long .ensures) (c .if1 .left)
 
 returns-2 : tie.Need-returns-2
 returns-2 c =
-    hashes (now (c .before .before .before .before .before .args .name)) (c .before .before .before .before .before .args .initval) (c .before .before .before .too-long .result)
-    (c .before .before .before .too-long .ensures) (c .before .before .if1 .left) (c .before .initial-word .result) (c .hash-from .result)
-    (c .before .initial-word .ensures) (c .hash-from .ensures)
+    let tested = c .before .before .before in
+    let a = tested .before .before .args in
+    hashes (now (a .name)) (a .initval) (tested .too-long .result) (tested .too-long .ensures) (c .before .before .if1 .left)
+    (c .before .initial-word .result) (c .hash-from .result) (c .before .initial-word .ensures) (c .hash-from .ensures)
 
 pub jhash-spec : {M : Type 1} → statement M
 jhash-spec =

@@ -112,7 +112,9 @@ module _ {M : Type 1} (𝓤 : URA M) (H : Heap 𝓤) (𝓜 : Model 𝓤 H) (𝓖
     goes-new =
         qed W (raw Tokens ∷ ‵ (owns (typesAt (name-of-id.signature .params) κs) (s, (i, tt)) (v ∷ [], (vint w32 i ∷ [], tt))) ∷ []) ∵
         move ! (1 ∷ []) $ fsplit ! $ move ! (1 ∷ []) $ fsplit ! $ move ! (2 ∷ 1 ∷ []) $ fjoin ! $ move ! (2 ∷ 0 ∷ []) $ join ! $
-        use1 W (raw (New .pre to-new)) (qed W ((raw Tokens ⊛ ‵ (owns (typesAt (new.signature .params) κs) (s, tt) (v ∷ [], tt))) ∷ []) ∵ nothing ! $ move ! (1 ∷ 0 ∷ []) $ done !) $ frame ! $ done !
+        use1 W (raw (New .pre to-new))
+        (qed W ((raw Tokens ⊛ ‵ (owns (typesAt (new.signature .params) κs) (s, tt) (v ∷ [], tt))) ∷ []) ∵ nothing ! $ move ! (1 ∷ 0 ∷ []) $ done !) $
+        frame ! $ done !
 
     new-says : (r : CQDB) → ent 𝓤 (ensured 𝓤 H A new.ended (new.clauses 𝓤 H A (𝓜 .mem) (𝓡 .run)) κs (s, tt) tt r) (fact 𝓤 (r .image ≡ s))
     new-says r = exE 𝓤 _ (λ ws. snd∗ 𝓤 (sem 𝓤 H A (lasts new.ended κs (s, tt) ws)) (fact 𝓤 (r .image ≡ s)))
@@ -128,38 +130,52 @@ module _ {M : Type 1} (𝓤 : URA M) (H : Heap 𝓤) (𝓜 : Model 𝓤 H) (𝓖
 
       -- what it promises of the view's slice it promises of s
       module _ (e : r .image ≡ s) where
-        same : (x : RefT (List ℕ)) → ent 𝓤 (ensured 𝓤 H A name.ended (name.clauses 𝓤 H A (𝓜 .mem) (𝓡 .run)) κs (r, (i, tt)) tt x) (ensured 𝓤 H A name-of-id.ended (name-of-id.clauses 𝓤 H A (𝓜 .mem) (𝓡 .run)) κs (s, (i, tt)) tt x)
+        same : (x : RefT (List ℕ))
+            → ent 𝓤 (ensured 𝓤 H A name.ended (name.clauses 𝓤 H A (𝓜 .mem) (𝓡 .run)) κs (r, (i, tt)) tt x)
+            (ensured 𝓤 H A name-of-id.ended (name-of-id.clauses 𝓤 H A (𝓜 .mem) (𝓡 .run)) κs (s, (i, tt)) tt x)
         same x = exE 𝓤 _ (λ ws. needs 𝓤 (slice x ≡ nameSlice (slice (r .image)) i) (sem 𝓤 H A (lasts name.ended κs (r, (i, tt)) ws)) (λ named.
             qed W (‵ (lasts name.ended κs (r, (i, tt)) ws) ∷ []) ∵
-            show ! (λ (us : Lasts name-of-id.ended κs (s, (i, tt))). sep 𝓤 (sem 𝓤 H A (lasts name-of-id.ended κs (s, (i, tt)) us)) (fact 𝓤 (slice x ≡ nameSlice (slice s) i))) ws $
+            show ! (λ (us : Lasts name-of-id.ended κs (s, (i, tt))). sep 𝓤 (sem 𝓤 H A (lasts name-of-id.ended κs (s, (i, tt)) us))
+            (fact 𝓤 (slice x ≡ nameSlice (slice s) i))) ws $
             says ! (named ∙ ap (λ (z : RefT (List ℕ)). nameSlice (slice z) i) e) $ done !))
 
         leaves : (u′ : Val) → ent 𝓤 (Name .post to-name u′) (H .⇛ (sep 𝓤 (NameOfId .post y u′) (fact 𝓤 (OfTy NameTy u′))))
-        leaves = passes 𝓤 H A W Tokens (ShrSlice (named 0) (κs .0) u8) NameTy (λ x u′ is. shr-slice-lawful 𝓤 H A W (named 0) (κs .0) u8 .typed x (u′ ∷ []) is .0) _ _ same
+        leaves =
+            passes 𝓤 H A W Tokens (ShrSlice (named 0) (κs .0) u8) NameTy
+            (λ x u′ is. shr-slice-lawful 𝓤 H A W (named 0) (κs .0) u8 .typed x (u′ ∷ []) is .0) _ _ same
 
-    walk : OfTy NameTy v → OfTy (tyInt w32) (vint w32 i) → Triple 𝓤 (C new-def.name) New → Triple 𝓤 (C name-def.name) Name → ent 𝓤 Entry (run (v ∷ vint w32 i ∷ []) (NameOfId .post y))
+    walk : OfTy NameTy v → OfTy (tyInt w32) (vint w32 i) → Triple 𝓤 (C new-def.name) New → Triple 𝓤 (C name-def.name) Name
+        → ent 𝓤 Entry (run (v ∷ vint w32 i ∷ []) (NameOfId .post y))
     walk ws wi known-new known-name =
         qed W (raw Entry ∷ []) ∵ enter ! C Λ code.function (v ∷ vint w32 i ∷ []) _ $
-        alloc1 ! (λ l₀. alloc1 ! (λ l₁. alloc1 ! (λ l₂. alloc1 ! (λ l₃. alloc0 ! $ params1 ! $ pass1 ! (init ! 4 refl ws) $ pass1 ! (init ! 2 refl wi) $ pass0 ! $
+        alloc1 ! (λ l₀. alloc1 ! (λ l₁. alloc1 ! (λ l₂. alloc1 ! (λ l₃. alloc0 ! $
+        params1 ! $ pass1 ! (init ! 4 refl ws) $ pass1 ! (init ! 2 refl wi) $ pass0 ! $
         move ! (8 ∷ []) $ use1 W (raw (New .pre to-new) ⊛ ‵ (u32 .own i (vint w32 i ∷ []))) goes-new $ split ! $
         calls-at ! fm New known-new to-new (and-then ! (load ! (from ! (stop !)) (look ! 6 refl)) (no-more !)) (λ u.
-        use1 W (later (some (λ (r : CQDB). (raw Tokens ⊛ ‵ (B .own r (u ∷ []))) ⊛ raw (ensured 𝓤 H A new.ended (new.clauses 𝓤 H A (𝓜 .mem) (𝓡 .run)) κs (s, tt) tt r)))) (id⊢ 𝓤 _) $ await ! tt $ pick ! (λ r.
+        use1 W (later (some (λ (r : CQDB). (raw Tokens ⊛ ‵ (B .own r (u ∷ []))) ⊛
+        raw (ensured 𝓤 H A new.ended (new.clauses 𝓤 H A (𝓜 .mem) (𝓡 .run)) κs (s, tt) tt r)))) (id⊢ 𝓤 _) $ await ! tt $ pick ! (λ r.
         split ! $ move ! (1 ∷ []) $ use1 W (raw (fact 𝓤 (r .image ≡ s))) (new-says r) $ heard ! (r .image ≡ s) (λ e. split ! $ move ! (1 ∷ []) $
         -- [what the view owns; the tokens; what the id owns; room for _3; …; _2; …; _1; …; room for _0; …]
         peeks ! B (Is B) (shows 𝓤 H A B) r (u ∷ []) (λ is.
-        land ! (from ! (stop !)) (init ! 3 refl (LL.lawful (T.the-type αᵉ) (T′.the-laws αᵉ) 𝓤 H A W .typed r _ is .0)) $ use3 W (raw (Name .pre (to-name r u))) (goes-name r u) $
-        calls-at ! fm Name known-name (to-name r u) (and-then ! (load ! (from ! (stop !)) (look ! 1 refl)) (and-then ! (load ! (from ! (stop !)) (look ! 3 refl)) (no-more !))) (λ u′.
-        use1 W (later (raw (NameOfId .post y u′) ⊛ raw (fact 𝓤 (OfTy NameTy u′)))) (leaves r u e u′) $ await ! tt $ split ! $ move ! (1 ∷ []) $ heard ! (OfTy NameTy u′) (λ wt.
+        land ! (from ! (stop !)) (init ! 3 refl (LL.lawful (T.the-type αᵉ) (T′.the-laws αᵉ) 𝓤 H A W .typed r _ is .0)) $
+        use3 W (raw (Name .pre (to-name r u))) (goes-name r u) $
+        calls-at ! fm Name known-name (to-name r u)
+        (and-then ! (load ! (from ! (stop !)) (look ! 1 refl)) (and-then ! (load ! (from ! (stop !)) (look ! 3 refl)) (no-more !))) (λ u′.
+        use1 W (later (raw (NameOfId .post y u′) ⊛ raw (fact 𝓤 (OfTy NameTy u′)))) (leaves r u e u′) $ await ! tt $ split ! $ move ! (1 ∷ []) $
+        heard ! (OfTy NameTy u′) (λ wt.
         -- [what is to be left; _3; …; _2; …; _1; …; room for _0; …]
         land ! (from ! (stop !)) (init ! 7 refl wt) $ returns ! (look ! 7 refl) $ forget ! 1 refl $ forget ! 3 refl $ forget ! 5 refl $ forget ! 7 refl $
-        move ! (7 ∷ 8 ∷ []) $ free1 ! $ move ! (5 ∷ 6 ∷ []) $ free1 ! $ move ! (3 ∷ 4 ∷ []) $ free1 ! $ move ! (1 ∷ 2 ∷ []) $ free1 ! $ free0 ! $ done !))))))))))
+        move ! (7 ∷ 8 ∷ []) $ free1 ! $ move ! (5 ∷ 6 ∷ []) $ free1 ! $ move ! (3 ∷ 4 ∷ []) $ free1 ! $ move ! (1 ∷ 2 ∷ []) $ free1 ! $
+        free0 ! $ done !))))))))))
 
   meets : Triple 𝓤 (C new-def.name) New → Triple 𝓤 (C name-def.name) Name → Triple 𝓤 run NameOfId
   meets known-new known-name y = via 𝓤 _ (fst∗ 𝓤 _ (emp 𝓤))
-      (said 𝓤 H A name-of-id.signature (y .0 .0) (y .0 .1) (slice-vals, (uint-vals w32, tt)) (shr-slice-tells (named 0) (y .0 .0 .0) u8, (uint-tells w32, tt)) (y .0 .3)
+      (said 𝓤 H A name-of-id.signature (y .0 .0) (y .0 .1) (slice-vals, (uint-vals w32, tt))
+      (shr-slice-tells (named 0) (y .0 .0 .0) u8, (uint-tells w32, tt)) (y .0 .3)
       (λ us. run (flat (typesAt (name-of-id.signature .params) (y .0 .0)) us) (NameOfId .post y)) (y .0 .4)
       (λ are. walk (y .0 .0) (y .0 .1) (y .0 .3 .0) (y .0 .3 .1 .0)
-      (shr-slice-lawful 𝓤 H A W (named 0) (y .0 .0 .0) u8 .typed (y .0 .3 .0) _ (are .0) .0) (uint-lawful 𝓤 H A W w32 .typed (y .0 .3 .1 .0) _ (are .1 .0) .0) known-new known-name))
+      (shr-slice-lawful 𝓤 H A W (named 0) (y .0 .0 .0) u8 .typed (y .0 .3 .0) _ (are .0) .0)
+      (uint-lawful 𝓤 H A W w32 .typed (y .0 .3 .1 .0) _ (are .1 .0) .0) known-new known-name))
 
 pub name-of-id-spec : {M : Type 1} → stated.statement M
 unfolding code.routine

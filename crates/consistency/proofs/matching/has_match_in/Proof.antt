@@ -49,7 +49,8 @@ module _ (c : tie.After-probe-bucket Inv-loop μ-loop) where
       let a = c .before .before .before .before .before .before .args in
       let of-loop = c .before .before .loop in
       ap (anyMatch (a .id))
-      (matches-step (a .image .now) (a .name .now) (a .h) (a .at) (a .n) (of-loop .k) (of-loop .left) s (omega arith) (of-loop .inv .most) (sym e ∙ c .probe-bucket .ensures))
+      (matches-step (a .image .now) (a .name .now) (a .h) (a .at) (a .n) (of-loop .k) (of-loop .left) s (omega arith) (of-loop .inv .most)
+      (sym e ∙ c .probe-bucket .ensures))
       ∙ of-loop .inv .same
 
 loop-holds : tie.Need-loop-holds Inv-loop μ-loop

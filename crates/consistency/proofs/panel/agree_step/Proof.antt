@@ -11,7 +11,8 @@ use Rattle.consistency.proofs.panel.agree_step.Statement.{statement}
 use Rattle.consistency.proofs.panel.agree_step.Tie as tie
 
 -- the name stands in the image
-inside : (c : tie.After-known-told) → c .before .start .given .0 .0 + c .before .start .given .0 .1 .0 ≤ length (c .before .before .before .before .before .args .image .now)
+inside : (c : tie.After-known-told)
+    → c .before .start .given .0 .0 + c .before .start .given .0 .1 .0 ≤ length (c .before .before .before .before .before .args .image .now)
 inside c =
     let a = c .before .before .before .before .before .args in
     let place = c .before .start .given in
@@ -28,19 +29,22 @@ returns c =
     let a = start (c .before) .args in
     let place = c .before .before .before .start .given in
     let told = ap namingOf (sym (place .1)) ∙ c .before .before .before .before .before .to-str .ensures in
-    agree-step-same (a .image .now) (a .id) (place .0 .0) (place .0 .1 .0) told (inside (c .before .before)) (c .before .shown-length .result) (c .before .shown-length .ensures) (c .if1 .taken)
+    agree-step-same (a .image .now) (a .id) (place .0 .0) (place .0 .1 .0) told (inside (c .before .before)) (c .before .shown-length .result)
+    (c .before .shown-length .ensures) (c .if1 .taken)
 
 returns-2 : tie.Need-returns-2
 returns-2 c =
     let a = start (c .before) .args in
     let place = c .before .before .before .start .given in
     let told = ap namingOf (sym (place .1)) ∙ c .before .before .before .before .before .to-str .ensures in
-    agree-step-differs (a .image .now) (a .id) (place .0 .0) (place .0 .1 .0) told (inside (c .before .before)) (c .before .shown-length .result) (c .before .shown-length .ensures) (c .if1 .left)
+    agree-step-differs (a .image .now) (a .id) (place .0 .0) (place .0 .1 .0) told (inside (c .before .before)) (c .before .shown-length .result)
+    (c .before .shown-length .ensures) (c .if1 .left)
 
 returns-3 : tie.Need-returns-3
 returns-3 c =
     let a = c .before .before .before .before .args in
-    ap (λ (b : Bool). cond b (a .id + 1) 0) (agree-unnamed (a .image .now) (a .id) (ap namingOf (sym (c .enum-told .given .1)) ∙ c .before .before .to-str .ensures))
+    ap (λ (b : Bool). cond b (a .id + 1) 0)
+    (agree-unnamed (a .image .now) (a .id) (ap namingOf (sym (c .enum-told .given .1)) ∙ c .before .before .to-str .ensures))
 
 pub agree-step-spec : {M : Type 1} → statement M
 agree-step-spec =

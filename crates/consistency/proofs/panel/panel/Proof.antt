@@ -14,14 +14,16 @@ add-result : tie.Need-add-result
 add-result c =
     let a = c .before .before .before .before .before .args in
     let of-start = c .before .start .given in
-    let in-image = panel-inside (a .image .now) (a .id) (of-start .0 .0) (of-start .0 .1 .0) (sym (c .before .before .before .panel-place .ensures) ∙ ap namingOf (of-start .1)) in
+    let in-image = panel-inside (a .image .now) (a .id) (of-start .0 .0) (of-start .0 .1 .0)
+    (sym (c .before .before .before .panel-place .ensures) ∙ ap namingOf (of-start .1)) in
     omega arith
 
 part-result-end : tie.Need-part-result-end
 part-result-end c =
     let a = c .before .before .before .before .before .args in
     let of-start = c .before .start .given in
-    let in-image = panel-inside (a .image .now) (a .id) (of-start .0 .0) (of-start .0 .1 .0) (sym (c .before .before .before .panel-place .ensures) ∙ ap namingOf (of-start .1)) in
+    let in-image = panel-inside (a .image .now) (a .id) (of-start .0 .0) (of-start .0 .1 .0)
+    (sym (c .before .before .before .panel-place .ensures) ∙ ap namingOf (of-start .1)) in
     omega arith
 
 returns : tie.Need-returns
@@ -36,7 +38,8 @@ returns-2 : tie.Need-returns-2
 returns-2 c =
     let a = c .before .before .before .before .before .args in
     let image = slice (a .image) in
-    no-slice image (subslice image 0 0) (panel (a .image .now) (a .id)) (ap namingOf (sym (c .before .enum-told .given .1)) ∙ c .before .before .before .panel-place .ensures)
+    no-slice image (subslice image 0 0) (panel (a .image .now) (a .id))
+    (ap namingOf (sym (c .before .enum-told .given .1)) ∙ c .before .before .before .panel-place .ensures)
 
 pub panel-spec : {M : Type 1} → statement M
 panel-spec =

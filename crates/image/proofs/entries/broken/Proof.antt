@@ -10,7 +10,8 @@ returns c = broken-short (c .before .before .args .image .now) (c .before .befor
 returns-2 : tie.Need-returns-2
 returns-2 c =
     let a = c .before .before .before .before .args in
-    broken-rest (a .image .now) (a .at) (c .before .word .result) (c .less-one .result) (c .before .before .if1 .left) (search needs) (c .before .word .ensures) (c .less-one .ensures)
+    broken-rest (a .image .now) (a .at) (c .before .word .result) (c .less-one .result) (c .before .before .if1 .left) (search needs)
+    (c .before .word .ensures) (c .less-one .ensures)
 
 pub broken-spec : {M : Type 1} → statement M
 broken-spec =

@@ -59,7 +59,8 @@ hash : (k : tie.After-hash-or-zero2 Inv-loop μ-loop) → k .hash-or-zero2 .resu
 hash k =
     let name = named k .name-at in
     let n = named k .before .before .whole-length in
-    k .hash-or-zero2 .ensures ∙ hash-or-zero-short (name .result .now) (omega (arith, name .ensures .size, n .ensures .small, inside (named k .before) .name .some))
+    k .hash-or-zero2 .ensures
+    ∙ hash-or-zero-short (name .result .now) (omega (arith, name .ensures .size, n .ensures .small, inside (named k .before) .name .some))
 
 loop-holds : tie.Need-loop-holds Inv-loop μ-loop
 loop-holds c =
@@ -129,7 +130,8 @@ loop-again c =
     record {
       rest = rw (hashed c .before .larger .ensures)
           (walk-step (a .buf .now) (a .end) (a .entries) (a .counts .now) (l .at) (l .left) (l .back) (l .counts) (start e .pre .inside) (l .inv .rest) some
-          (n .result) (hashed c .hash-or-zero2 .result) (id .result) (name .result .now) (c .before .raise .last .0) (known e) (n .ensures .small) small (name .ensures .is)
+          (n .result) (hashed c .hash-or-zero2 .result) (id .result) (name .result .now) (c .before .raise .last .0) (known e) (n .ensures .small) small
+          (name .ensures .is)
           (hash (hashed c))
           (id .ensures) (c .before .raise .ensures));
       contains-rest = contains-step (a .buf .now) (a .end) (a .entries) (a .sought .now) (l .at) (l .left) (l .contains) (start e .pre .inside)

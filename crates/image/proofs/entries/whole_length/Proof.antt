@@ -16,7 +16,8 @@ returns-2 c =
 returns-3 : tie.Need-returns-3
 returns-3 c =
     let w = c .before .before .word in
-    cut-there (c .before .before .before .before .before .pre) (c .before .before .before .if1 .left) (w .result) (w .ensures) (c .before .if2 .left) (c .if3 .taken)
+    cut-there (c .before .before .before .before .before .pre) (c .before .before .before .if1 .left) (w .result) (w .ensures) (c .before .if2 .left)
+    (c .if3 .taken)
 
 -- the start, from where the entry ends before `end`
 abbrev start : tie.Else3 → tie.Start

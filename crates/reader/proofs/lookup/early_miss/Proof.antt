@@ -26,8 +26,10 @@ returns-3 c = λ l name.
     let s = second .before .before .before .before in
     let a = s .args in
     early-miss (a .image .now) name (a .h) (a .at) (a .n) (s .pre)
-    (second .next .result) (third .next2 .result) (c .before .before .before .word3 .result) (c .before .before .word4 .result) (c .before .word5 .result) (c .first-zero .result)
-    (second .next .ensures .is) (third .next2 .ensures .is) (c .before .before .before .word3 .ensures) (c .before .before .word4 .ensures) (c .before .word5 .ensures)
+    (second .next .result) (third .next2 .result) (c .before .before .before .word3 .result) (c .before .before .word4 .result) (c .before .word5 .result)
+    (c .first-zero .result)
+    (second .next .ensures .is) (third .next2 .ensures .is) (c .before .before .before .word3 .ensures) (c .before .before .word4 .ensures)
+    (c .before .word5 .ensures)
     (λ e. second .before .if1 .left (second .before .before .word .ensures ∙ e)) (λ e. third .before .if2 .left (third .before .before .word2 .ensures ∙ e))
     (c .first-zero .ensures)
     l

@@ -28,7 +28,8 @@ returns-3 c =
     let t = c .before in
     let a = t .before .before .before .before .before .args in
     let found = t .find-table .ensures in
-    from-over (a .image .now) (a .name .now) (a .h) (a .c) (t .find-table .result .n) (found .unread) (λ some. (found .table some .searched, found .table some .number))
+    from-over (a .image .now) (a .name .now) (a .h) (a .c) (t .find-table .result .n) (found .unread)
+    (λ some. (found .table some .searched, found .table some .number))
     (c .if3 .taken)
     ∙ from-by (a .image .now) (a .name .now) (a .h) (a .c) false false (le-ltb (length (a .image .now)) 2072 (t .before .before .if1 .left))
     (lt-leb 4294967295 (length (a .name .now)) (t .before .if2 .left))

@@ -7,7 +7,8 @@ use Rattle.sheet.proofs.reading.count_at.Tie as tie
 returns : tie.Need-returns
 returns c =
     let a = c .before .before .before .before .before .args in
-    count-of (a .file .now) (a .at) (c .before .before .byte-as-word .result) (c .byte-as-word2 .result) (c .before .before .byte-as-word .ensures) (c .byte-as-word2 .ensures)
+    count-of (a .file .now) (a .at) (c .before .before .byte-as-word .result) (c .byte-as-word2 .result) (c .before .before .byte-as-word .ensures)
+    (c .byte-as-word2 .ensures)
 
 pub count-at-spec : {M : Type 1} → statement M
 count-at-spec =

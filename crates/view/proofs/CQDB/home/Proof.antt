@@ -24,6 +24,7 @@ home-spec 𝓤 H 𝓜 𝓖 𝓡 =
     keeps₁ 𝓤 H 𝓜 𝓖 𝓡 0 code.env #view·home callee.name callee.routine code.calls-consistency·home
     (plain (λ κs. bool)) (record { ty = tyBool; is-ty = λ κs. refl; lawful = λ κs. bool-lawful 𝓤 H (𝓖 .A) (givenOf 𝓤 H 𝓜 𝓖) })
     (plain (λ κs. u32)) (id-passed 𝓤 H 𝓜 𝓖 𝓡 0)
-    (λ κs a r e. on-image.clauses 𝓤 H (𝓖 .A) (𝓜 .mem) (𝓡 .run) κs a .ensures tt r e) (λ κs a r e. on-view.clauses 𝓤 H (𝓖 .A) (𝓜 .mem) (𝓡 .run) κs a .ensures tt r e)
+    (λ κs a r e. on-image.clauses 𝓤 H (𝓖 .A) (𝓜 .mem) (𝓡 .run) κs a .ensures tt r e)
+    (λ κs a r e. on-view.clauses 𝓤 H (𝓖 .A) (𝓜 .mem) (𝓡 .run) κs a .ensures tt r e)
     (λ κs d a r e e′. id⊢ 𝓤 (fact 𝓤 (r ≡ home (now (d .image)) (a .0))))
     (code.unfolded 𝓤 H 𝓜 𝓡) (kept.met 𝓤 H 𝓜 𝓖 𝓡)

@@ -24,8 +24,13 @@ unfolding code.routine
 name-spec 𝓤 H 𝓜 𝓖 𝓡 =
     keeps₁ 𝓤 H 𝓜 𝓖 𝓡 0 code.env #view·name callee.name callee.routine code.calls-reader·name
     (shrSliceOf (0 ∷ []) tt (plain (λ κs. u8)))
-    (record { ty = sliceTy (tyRef (named 0) imm (tyInt w8)); is-ty = λ κs. refl; lawful = λ κs. shr-slice-lawful 𝓤 H (𝓖 .A) (givenOf 𝓤 H 𝓜 𝓖) (named 0) (κs .0) u8 })
+    (record {
+      ty = sliceTy (tyRef (named 0) imm (tyInt w8));
+      is-ty = λ κs. refl;
+      lawful = λ κs. shr-slice-lawful 𝓤 H (𝓖 .A) (givenOf 𝓤 H 𝓜 𝓖) (named 0) (κs .0) u8;
+    })
     (plain (λ κs. u32)) (id-passed 𝓤 H 𝓜 𝓖 𝓡 0)
-    (λ κs a r e. on-image.clauses 𝓤 H (𝓖 .A) (𝓜 .mem) (𝓡 .run) κs a .ensures tt r e) (λ κs a r e. on-view.clauses 𝓤 H (𝓖 .A) (𝓜 .mem) (𝓡 .run) κs a .ensures tt r e)
+    (λ κs a r e. on-image.clauses 𝓤 H (𝓖 .A) (𝓜 .mem) (𝓡 .run) κs a .ensures tt r e)
+    (λ κs a r e. on-view.clauses 𝓤 H (𝓖 .A) (𝓜 .mem) (𝓡 .run) κs a .ensures tt r e)
     (λ κs d a r e e′. id⊢ 𝓤 (fact 𝓤 (slice r ≡ nameSlice (slice (d .image)) (a .0))))
     (code.unfolded 𝓤 H 𝓜 𝓡) (kept.met 𝓤 H 𝓜 𝓖 𝓡)

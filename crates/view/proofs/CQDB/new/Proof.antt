@@ -72,13 +72,16 @@ module _ {M : Type 1} (𝓤 : URA M) (H : Heap 𝓤) (𝓜 : Model 𝓤 H) (𝓖
 
     -- the view's slice is the slice passed
     holds : ent 𝓤 (emp 𝓤) (Said made)
-    holds = qed W [] ∵ show ! (λ (ws : Lasts new.ended κs (s, tt)). sep 𝓤 (sem 𝓤 H A (lasts new.ended κs (s, tt) ws)) (fact 𝓤 (made .image ≡ s))) (tt, tt) $ says ! refl $ nothing ! $ nothing ! $ fjoin ! $ done !
+    holds =
+        qed W [] ∵ show ! (λ (ws : Lasts new.ended κs (s, tt)). sep 𝓤 (sem 𝓤 H A (lasts new.ended κs (s, tt) ws)) (fact 𝓤 (made .image ≡ s))) (tt, tt) $
+        says ! refl $ nothing ! $ nothing ! $ fjoin ! $ done !
 
     exits : ent 𝓤 Entry (New .post y (T′.lowered made))
     exits =
         qed W (raw (alive 𝓤 H A new.signature κs qs) ∷ ‵ (owns (typesAt (new.signature .params) κs) (s, tt) (v ∷ [], tt)) ∷ []) ∵ updating ! $ at-once ! $
         show ! (λ (r : CQDB). sep 𝓤 (Back 𝓤 H A new.signature (y .0) (T′.lowered made) r) (Said r)) made $
-        move ! (1 ∷ []) $ use1 W (‵ (T.the-row α .own made (T′.lowered made ∷ []))) (own-shut 𝓤 H A W (T.the-type α) (T′.the-laws α) (s, tt)) $ move ! (1 ∷ 0 ∷ []) $ join ! $ frame ! $ by ! holds
+        move ! (1 ∷ []) $ use1 W (‵ (T.the-row α .own made (T′.lowered made ∷ []))) (own-shut 𝓤 H A W (T.the-type α) (T′.the-laws α) (s, tt)) $
+        move ! (1 ∷ 0 ∷ []) $ join ! $ frame ! $ by ! holds
 
     walk : Is (ShrSlice (named 0) (κs .0) u8) s (v ∷ []) → ent 𝓤 Entry (run (v ∷ []) (New .post y))
     walk p =

@@ -33,6 +33,7 @@ next-spec 𝓤 H 𝓜 𝓖 𝓡 =
       val = λ κs x. I′.lowered x;
       tells = λ κs. LL.tells I.the-type I′.the-laws;
     })
-    (λ κs a r e. on-image.clauses 𝓤 H (𝓖 .A) (𝓜 .mem) (𝓡 .run) κs a .ensures tt r e) (λ κs a r e. on-view.clauses 𝓤 H (𝓖 .A) (𝓜 .mem) (𝓡 .run) κs a .ensures tt r e)
+    (λ κs a r e. on-image.clauses 𝓤 H (𝓖 .A) (𝓜 .mem) (𝓡 .run) κs a .ensures tt r e)
+    (λ κs a r e. on-view.clauses 𝓤 H (𝓖 .A) (𝓜 .mem) (𝓡 .run) κs a .ensures tt r e)
     (λ κs d a r e e′. id⊢ 𝓤 (fact 𝓤 (steppedOf r ≡ step (now (d .image)) (a .0 .next))))
     (code.unfolded 𝓤 H 𝓜 𝓡) (kept.met 𝓤 H 𝓜 𝓖 𝓡)

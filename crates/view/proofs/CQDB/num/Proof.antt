@@ -21,6 +21,7 @@ unfolding code.routine
 num-spec 𝓤 H 𝓜 𝓖 𝓡 =
     keeps₀ 𝓤 H 𝓜 𝓖 𝓡 0 code.env #view·num callee.name callee.routine code.calls-view·num-of
     (plain (λ κs. u32)) (id-returned 𝓤 H 𝓜 𝓖 𝓡 0)
-    (λ κs a r e. on-image.clauses 𝓤 H (𝓖 .A) (𝓜 .mem) (𝓡 .run) κs a .ensures tt r e) (λ κs a r e. on-view.clauses 𝓤 H (𝓖 .A) (𝓜 .mem) (𝓡 .run) κs a .ensures tt r e)
+    (λ κs a r e. on-image.clauses 𝓤 H (𝓖 .A) (𝓜 .mem) (𝓡 .run) κs a .ensures tt r e)
+    (λ κs a r e. on-view.clauses 𝓤 H (𝓖 .A) (𝓜 .mem) (𝓡 .run) κs a .ensures tt r e)
     (λ κs d a r e e′. id⊢ 𝓤 (fact 𝓤 (r ≡ numOf (opening (now (d .image))))))
     (code.unfolded 𝓤 H 𝓜 𝓡) (kept.met 𝓤 H 𝓜 𝓖 𝓡)

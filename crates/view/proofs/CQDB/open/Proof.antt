@@ -24,6 +24,7 @@ unfolding code.routine
 open-spec 𝓤 H 𝓜 𝓖 𝓡 =
     keeps₀ 𝓤 H 𝓜 𝓖 𝓡 0 code.env #view·open callee.name callee.routine code.calls-reader·open
     (plain (λ κs. S.the-row)) (record { ty = S′.mir; is-ty = λ κs. refl; lawful = λ κs. EL.lawful S.the-type S′.the-laws 𝓤 H (𝓖 .A) (givenOf 𝓤 H 𝓜 𝓖) tt })
-    (λ κs a r e. on-image.clauses 𝓤 H (𝓖 .A) (𝓜 .mem) (𝓡 .run) κs a .ensures tt r e) (λ κs a r e. on-view.clauses 𝓤 H (𝓖 .A) (𝓜 .mem) (𝓡 .run) κs a .ensures tt r e)
+    (λ κs a r e. on-image.clauses 𝓤 H (𝓖 .A) (𝓜 .mem) (𝓡 .run) κs a .ensures tt r e)
+    (λ κs a r e. on-view.clauses 𝓤 H (𝓖 .A) (𝓜 .mem) (𝓡 .run) κs a .ensures tt r e)
     (λ κs d a r e e′. id⊢ 𝓤 (fact 𝓤 (openedOf r ≡ opening (now (d .image)))))
     (code.unfolded 𝓤 H 𝓜 𝓡) (kept.met 𝓤 H 𝓜 𝓖 𝓡)

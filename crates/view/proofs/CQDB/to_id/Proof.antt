@@ -31,10 +31,16 @@ to-id-spec 𝓤 H 𝓜 𝓖 𝓡 =
     (plain (λ κs. S.the-row)) (record { ty = S′.mir; is-ty = λ κs. refl; lawful = λ κs. EL.lawful S.the-type S′.the-laws 𝓤 H (𝓖 .A) (givenOf 𝓤 H 𝓜 𝓖) tt })
     (shrSliceOf (1 ∷ []) tt (plain (λ κs. u8)))
     (record {
-      as-returned = record { ty = sliceTy (tyRef (named 1) imm (tyInt w8)); is-ty = λ κs. refl; lawful = λ κs. shr-slice-lawful 𝓤 H (𝓖 .A) (givenOf 𝓤 H 𝓜 𝓖) (named 1) (κs .1 .0) u8 };
+      as-returned =
+          record {
+            ty = sliceTy (tyRef (named 1) imm (tyInt w8));
+            is-ty = λ κs. refl;
+            lawful = λ κs. shr-slice-lawful 𝓤 H (𝓖 .A) (givenOf 𝓤 H 𝓜 𝓖) (named 1) (κs .1 .0) u8;
+          };
       val = λ κs x. sliceVal (x .ptr) (length (now x));
       tells = λ κs. shr-slice-tells (named 1) (κs .1 .0) u8;
     })
-    (λ κs a r e. on-image.clauses 𝓤 H (𝓖 .A) (𝓜 .mem) (𝓡 .run) κs a .ensures tt r e) (λ κs a r e. on-view.clauses 𝓤 H (𝓖 .A) (𝓜 .mem) (𝓡 .run) κs a .ensures tt r e)
+    (λ κs a r e. on-image.clauses 𝓤 H (𝓖 .A) (𝓜 .mem) (𝓡 .run) κs a .ensures tt r e)
+    (λ κs a r e. on-view.clauses 𝓤 H (𝓖 .A) (𝓜 .mem) (𝓡 .run) κs a .ensures tt r e)
     (λ κs d a r e e′. id⊢ 𝓤 (fact 𝓤 (lookupOf r ≡ lookup (now (d .image)) (now (a .0)))))
     (code.unfolded 𝓤 H 𝓜 𝓡) (kept.met 𝓤 H 𝓜 𝓖 𝓡)

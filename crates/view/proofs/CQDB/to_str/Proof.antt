@@ -26,6 +26,7 @@ to-str-spec 𝓤 H 𝓜 𝓖 𝓡 =
     keeps₁ 𝓤 H 𝓜 𝓖 𝓡 0 code.env #view·to-str callee.name callee.routine code.calls-reader·to-str
     (plain (λ κs. S.the-row)) (record { ty = S′.mir; is-ty = λ κs. refl; lawful = λ κs. EL.lawful S.the-type S′.the-laws 𝓤 H (𝓖 .A) (givenOf 𝓤 H 𝓜 𝓖) tt })
     (plain (λ κs. u32)) (id-passed 𝓤 H 𝓜 𝓖 𝓡 0)
-    (λ κs a r e. on-image.clauses 𝓤 H (𝓖 .A) (𝓜 .mem) (𝓡 .run) κs a .ensures tt r e) (λ κs a r e. on-view.clauses 𝓤 H (𝓖 .A) (𝓜 .mem) (𝓡 .run) κs a .ensures tt r e)
+    (λ κs a r e. on-image.clauses 𝓤 H (𝓖 .A) (𝓜 .mem) (𝓡 .run) κs a .ensures tt r e)
+    (λ κs a r e. on-view.clauses 𝓤 H (𝓖 .A) (𝓜 .mem) (𝓡 .run) κs a .ensures tt r e)
     (λ κs d a r e e′. id⊢ 𝓤 (fact 𝓤 (namingOf r ≡ naming (now (d .image)) (a .0))))
     (code.unfolded 𝓤 H 𝓜 𝓡) (kept.met 𝓤 H 𝓜 𝓖 𝓡)
