@@ -3,7 +3,7 @@ use Prim.Native.Nat.{ℕ, zero, suc, _+_, _-_, _≤_, _<_}
 use native.Mathlib.Omega.{arith}
 use native.Mathlib.Numerals.{add-one}
 use mathlib.Core.Path.{_≡_, refl, sym, ap, _∙_}
-use mathlib.Core.Bool.{Bool, true, false, _||_}
+use mathlib.Core.Bool.{Bool, true, false, _||_, or-assoc, or-false, or-true}
 use mathlib.Core.List.{List, [], _∷_, _++_, append-assoc, append-nil}
 use lib.ListN.{length, take, length-take}
 use lib.Seq.{take-suc, getD-take}
@@ -22,19 +22,11 @@ use Rattle.batch.specs.theorems.Theorem.{Distinct, OnceEach}
 among-append : (y : List ℕ) (xs zs : List (List ℕ)) → among y (xs ++ zs) ≡ (among y xs || among y zs)
 unfolding among
 among-append y [] zs = refl
-among-append y (x ∷ xs) zs = ap (λ (t : Bool). same x y || t) (among-append y xs zs) ∙ assoc (same x y) (among y xs) (among y zs)
-  where
-    assoc : (a b c : Bool) → (a || (b || c)) ≡ ((a || b) || c)
-    assoc true b c = refl
-    assoc false b c = refl
+among-append y (x ∷ xs) zs = ap (λ (t : Bool). same x y || t) (among-append y xs zs) ∙ sym (or-assoc (same x y) (among y xs) (among y zs))
 
 among-last : (y x : List ℕ) (xs : List (List ℕ)) → among y (xs ++ x ∷ []) ≡ (among y xs || same x y)
 unfolding among
 among-last y x xs = among-append y xs (x ∷ []) ∙ ap (λ (t : Bool). among y xs || t) (or-false (same x y))
-  where
-    or-false : (t : Bool) → (t || false) ≡ t
-    or-false true = refl
-    or-false false = refl
 
 -- a name that is not among some and one more
 not-seen : (y x : List ℕ) (xs : List (List ℕ)) → among y (xs ++ x ∷ []) ≡ false → among y xs ≡ false
@@ -53,10 +45,6 @@ among-some x (y ∷ ys) zero h e = ap (λ (l : List ℕ). same l x || among x ys
 among-some x (y ∷ ys) (suc j) h e =
     let k : j < length ys = omega arith in
     ap (λ (t : Bool). same y x || t) (among-some x ys j k e) ∙ or-true (same y x)
-  where
-    or-true : (t : Bool) → (t || true) ≡ true
-    or-true true = refl
-    or-true false = refl
 
 among-none : (x : List ℕ) (ys : List (List ℕ)) → ((j : ℕ) → j < length ys → nth ys j ≡ x → ⊥) → among x ys ≡ false
 unfolding among

@@ -30,7 +30,8 @@ use Rattle.lookup_laws.proofs.SlotSearch.{none-empty, none-equal, filled-next}
 abbrev pub HashesTo : List (List ℕ) → ℕ → List ℕ → Type 0
 HashesTo xs i hashes = (j : ℕ) → j < i → getD hashes j 0 ≡ hashOrZero (nth xs j)
 
-pub hashes-step : (xs : List (List ℕ)) (hashes : List ℕ) (i v : ℕ) → i < length hashes → HashesTo xs i hashes → v ≡ hashOrZero (nth xs i) → HashesTo xs (i + 1) (set hashes i v)
+pub hashes-step : (xs : List (List ℕ)) (hashes : List ℕ) (i v : ℕ) → i < length hashes → HashesTo xs i hashes → v ≡ hashOrZero (nth xs i)
+    → HashesTo xs (i + 1) (set hashes i v)
 hashes-step xs hashes i v h k e j l =
     elim (ℕ-discrete j i) [
       | yes p ↦ ap (λ (m : ℕ). getD (set hashes i v) m 0) p ∙ getD-set-same hashes i v 0 h ∙ e ∙ ap (λ (m : ℕ). hashOrZero (nth xs m)) (sym p)

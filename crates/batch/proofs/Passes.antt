@@ -87,11 +87,13 @@ pub next-has-answer : {image hashes bytes ends first live done offsets answers a
     → HasAnswer image (names bytes ends) answers i ⊎ Listed first q i → HasAnswer image (names bytes ends) answers' i ⊎ Listed live p i
 next-has-answer {i = i} parted found (inl h) = inl (found .stays i h)
 next-has-answer {image} {bytes = bytes} {ends} {first} {live} {done} {answers' = answers'} {p = p} {d} {i} parted found (inr a) =
-    go (parted .each (a .place) (a .inside))
+    answered-or-live (parted .each (a .place) (a .inside))
   where
-    go : Listed live p (getD first (a .place) 0) ⊎ Listed done d (getD first (a .place) 0) → HasAnswer image (names bytes ends) answers' i ⊎ Listed live p i
-    go (inl b) = inr (subst (λ (k : ℕ). Listed live p k) (a .is) b)
-    go (inr b) = inl (subst (HasAnswer image (names bytes ends) answers') (a .is) (listed-has (HasAnswer image (names bytes ends) answers') (found .stored) b))
+    answered-or-live : Listed live p (getD first (a .place) 0) ⊎ Listed done d (getD first (a .place) 0)
+        → HasAnswer image (names bytes ends) answers' i ⊎ Listed live p i
+    answered-or-live (inl b) = inr (subst (λ (k : ℕ). Listed live p k) (a .is) b)
+    answered-or-live (inr b) =
+        inl (subst (HasAnswer image (names bytes ends) answers') (a .is) (listed-has (HasAnswer image (names bytes ends) answers') (found .stored) b))
 
 pub last-has-answer : {image bytes ends live answers answers' : List ℕ} {q i : ℕ} → Answered image bytes ends live answers answers' q
     → HasAnswer image (names bytes ends) answers i ⊎ Listed live q i → HasAnswer image (names bytes ends) answers' i

@@ -3,7 +3,7 @@ use Prim.Native.Nat.{ℕ, _+_, _*_, _-_, _/_, _%_, _≤_, _<_}
 use native.Mathlib.Omega.{arith}
 use native.Mathlib.Nat.{mod-add-mod}
 use mathlib.Core.Path.{_≡_, refl, sym, ap, _∙_}
-use mathlib.Core.Bool.{Bool, true, false, _||_}
+use mathlib.Core.Bool.{true, false, _||_}
 use mathlib.Core.List.{List}
 use borrow.Author.Tests.{eq-eqb, ne-eqb, eqb-true, eqb-false}
 use lib.Dec.{eqb}
@@ -12,17 +12,13 @@ use Rattle.image.specs.Bytes.{word}
 use Rattle.image.specs.Tables.{tableOf, next}
 use Rattle.image.specs.Image.{headSize}
 use Rattle.image.specs.Head.{tableAt, bucketNumber}
-use Rattle.image.proofs.Bools.{false-not-true, or-false-first, or-false-second}
+use Rattle.image.proofs.Bools.{or-false-first, or-false-second, or-true-first}
 use Rattle.reader.specs.Lookup.{Probe, pass, ends, probeEntry, probeBucket, decide, unsearched, lookupHash}
 use Rattle.reader.specs.steps.Resume.{searchRest, bucketAfter, searchFrom}
 use Rattle.reader.proofs.Searches.{probe-bucket-by, rest-step, from-over, from-read, from-start}
 use Rattle.batch.specs.steps.Probing.{SearchOpen, SearchDecided, Passes, NextProbed}
 
 -- ---- whether a bucket is passed
-
-left-one : (a b : Bool) → (a || b) ≡ true → b ≡ false → a ≡ true
-left-one true b t f = refl
-left-one false b t f = absurd (false-not-true (sym f ∙ t))
 
 module _ (hash h offset : ℕ) where
   pub not-passed : (eqb hash h || eqb offset 0) ≡ true → Passes hash h offset 0
@@ -31,7 +27,7 @@ module _ (hash h offset : ℕ) where
         small = omega arith;
         other = λ e. absurd (omega arith);
         taken = λ e. absurd (omega arith);
-        stops = λ e some. eqb-true hash h (left-one (eqb hash h) (eqb offset 0) t (ne-eqb offset 0 (λ z. omega arith)));
+        stops = λ e some. eqb-true hash h (or-true-first (eqb hash h) (eqb offset 0) t (ne-eqb offset 0 (λ z. omega arith)));
       }
 
   pub is-passed : (eqb hash h || eqb offset 0) ≡ false → Passes hash h offset 1

@@ -27,5 +27,6 @@ twice =
 
 -- every row holds
 pub rows-hold : RowsHold
-unfolding roundOutcome afterRound names namesFrom invalidEnds different differentFrom among same bucketsRead roundWords cat lookup nameWords nameRefusal afterNames naming
+unfolding roundOutcome afterRound names namesFrom invalidEnds different differentFrom among same bucketsRead roundWords cat lookup nameWords nameRefusal
+    afterNames naming
 rows-hold = record { gives = refl; leaves = refl; names-give = refl; names-leave = refl; twice = twice }

@@ -2,13 +2,15 @@
 use Prim.Native.Nat.{ℕ, zero, suc, _+_, _*_, _-_, _/_, _≤_, _<_}
 use native.Mathlib.Omega.{arith}
 use mathlib.Core.Path.{_≡_, refl, sym, ap, _∙_}
-use mathlib.Core.Bool.{Bool, true, false, cond, _||_}
+use mathlib.Core.Bool.{Bool, false, cond, _||_}
 use mathlib.Core.List.{List, [], _∷_, _++_, append-assoc}
 use borrow.Author.Tests.{le-ltb}
 use lib.Dec.{ltb}
 use lib.ListN.{length, getD, take, drop, length-append}
 use lib.Seq.{take-at, drop-at, drop-drop}
 use Rattle.jhash.specs.Outcome.{value, refusal}
+use Rattle.jhash.proofs.ValueOrRefusal.{no-value, same-value}
+use Rattle.image.proofs.Bools.{chose-second}
 use Rattle.image.specs.Bytes.{cat}
 use Rattle.image.specs.Stored.{between}
 use Rattle.image.proofs.Lists.{length-cat}
@@ -52,9 +54,10 @@ valid-from (x ∷ xs) size s h =
 -- ---- a round that is accepted
 
 given-count : (t b : Bool) (v n : ℕ) → cond t (refusal 14) (cond b (refusal 15) (value v)) ≡ value n → n ≡ v
-given-count true b v n e = let z : _≡_ {A = ℕ} 0 1 = cc in absurd (omega arith)
-given-count false true v n e = let z : _≡_ {A = ℕ} 0 1 = cc in absurd (omega arith)
-given-count false false v n e = cc
+given-count t b v n e =
+    let valid = chose-second t (refusal 14) (cond b (refusal 15) (value v)) (value n) (no-value 14 n) e in
+    let room = chose-second b (refusal 15) (value v) (value n) (no-value 15 n) (valid .1) in
+    sym (same-value v n (room .1))
 
 module _ (image bytes ends answers : List ℕ) (a : RoundAccepted image bytes ends answers) where
   count-is : a .count ≡ roundBuckets image (names bytes ends)

@@ -2,13 +2,13 @@
 use Prim.Native.Nat.{ℕ, _+_, _≤_, _<_}
 use native.Mathlib.Omega.{arith}
 use native.Mathlib.Decide.{decLt}
-use mathlib.Core.Path.{_≡_, refl, sym, ap, _∙_}
-use mathlib.Core.Bool.{Bool, true, false, cond, _&&_}
+use mathlib.Core.Path.{_≡_, sym, ap, _∙_}
+use mathlib.Core.Bool.{Bool, cond, _&&_}
 use mathlib.Core.List.{List}
 use lib.ListN.{length, getD, take, List·getD-eq-default}
 use lib.Dec.{eqb, leb}
 use borrow.Author.Tests.{leb-true, eqb-true}
-use Rattle.image.proofs.Bools.{and-first, and-second}
+use Rattle.image.proofs.Bools.{and-first, and-second, chose-first}
 use Rattle.catalogue.specs.Lines.{leadingDigits, decimal, entry, other, formWith, parseLine}
 
 -- a line's form by its four tests, n being the digits in front
@@ -35,28 +35,16 @@ space-inside line n e = elim (decLt n (length line)) [
 
 pub named : (line : List ℕ) (id at : ℕ) → parseLine line ≡ entry id at → Named line at
 unfolding parseLine
-named line id at e = go (a && b && c && d) refl e
-  where
-    n : ℕ
-    n = leadingDigits line
-
-    a : Bool
-    a = leb 1 n
-
-    b : Bool
-    b = leb n 10
-
-    c : Bool
-    c = eqb (getD line n 0) 32
-
-    d : Bool
-    d = leb (decimal (take n line)) 4294967295
-
-    go : (t : Bool) → (a && b && c && d) ≡ t → cond t (entry (decimal (take n line)) (n + 1)) other ≡ entry id at → Named line at
-    go false p e = never id at e
-    go true p e =
-        let abc = and-first (a && b && c) d p in
-        let few = leb-true n 10 (and-second a b (and-first (a && b) c abc)) in
-        let in-line = space-inside line n (eqb-true (getD line n 0) 32 (and-second (a && b) c abc)) in
-        let same : n + 1 ≡ at = cc in
-        record { inside = omega arith; low = omega arith }
+named line id at e =
+    let n = leadingDigits line in
+    let some-digits = leb 1 n in
+    let few-digits = leb n 10 in
+    let space = eqb (getD line n 0) 32 in
+    let word = leb (decimal (take n line)) 4294967295 in
+    let front = some-digits && few-digits && space in
+    let chosen = chose-first (front && word) (entry (decimal (take n line)) (n + 1)) other (entry id at) (never id at) e in
+    let held = and-first front word (chosen .0) in
+    let few = leb-true n 10 (and-second some-digits few-digits (and-first (some-digits && few-digits) space held)) in
+    let in-line = space-inside line n (eqb-true (getD line n 0) 32 (and-second (some-digits && few-digits) space held)) in
+    let same : n + 1 ≡ at = cc (chosen .1) in
+    record { inside = omega arith; low = omega arith }

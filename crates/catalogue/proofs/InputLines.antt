@@ -58,16 +58,16 @@ cuts-none s p ys n =
     input-feed s p ys n ∙ ap (λ (t : State). afterInput t ys) (sym (ap (afterInput s) (append-nil p) ∙ input-last s p n))
 
 cuts-more : (b : ℕ) (xs : List ℕ) → Cuts xs → Cuts (b ∷ xs)
-cuts-more b xs ih s p ys n = go (eqb b 10) refl
+cuts-more b xs ih s p ys n = by-line-feed (eqb b 10) refl
   where
-    go : (t : Bool) → eqb b 10 ≡ t → afterInput s (p ++ b ∷ (xs ++ 10 ∷ ys)) ≡ afterInput (afterInput s (p ++ b ∷ xs)) ys
-    go true e =
+    by-line-feed : (t : Bool) → eqb b 10 ≡ t → afterInput s (p ++ b ∷ (xs ++ 10 ∷ ys)) ≡ afterInput (afterInput s (p ++ b ∷ xs)) ys
+    by-line-feed true e =
         let f = eqb-true b 10 e in
         ap (λ (k : ℕ). afterInput s (p ++ k ∷ (xs ++ 10 ∷ ys))) f
         ∙ input-feed s p (xs ++ 10 ∷ ys) n
         ∙ ih (afterPutLine s p) [] ys tt
         ∙ ap (λ (t : State). afterInput t ys) (sym (ap (λ (k : ℕ). afterInput s (p ++ k ∷ xs)) f ∙ input-feed s p xs n))
-    go false e =
+    by-line-feed false e =
         ap (afterInput s) (sym (append-assoc p (b ∷ []) (xs ++ 10 ∷ ys)))
         ∙ ih s (p ++ (b ∷ [])) ys (no-feed-more p b n e)
         ∙ ap (λ (l : List ℕ). afterInput (afterInput s l) ys) (append-assoc p (b ∷ []) xs)

@@ -39,11 +39,11 @@ ended id s l m e = let z : _≡_ {A = ℕ} 0 1 = cc in absurd (omega arith)
 
 pub stepping : (image : List ℕ) (n id s l m : ℕ) → step image n ≡ item id s l m → Stepping image n s l m
 unfolding step
-stepping image n id s l m e = go (naming image n) refl e
+stepping image n id s l m e = stepping-by-naming (naming image n) refl e
   where
-    go : (x : Naming) → naming image n ≡ x → stepOf n x ≡ item id s l m → Stepping image n s l m
-    go unnamed f e = ended id s l m e
-    go (place s′ l′) f e =
+    stepping-by-naming : (x : Naming) → naming image n ≡ x → stepOf n x ≡ item id s l m → Stepping image n s l m
+    stepping-by-naming unnamed f e = ended id s l m e
+    stepping-by-naming (place s′ l′) f e =
         let inside = named image n s′ l′ f .inside in
         let es : s′ ≡ s = cc in
         let el : l′ ≡ l = cc in

@@ -58,11 +58,13 @@ puts : List Entry
 puts = entryOf (65 ∷ []) 0 ∷ entryOf (66 ∷ []) 3 ∷ entryOf (67 ∷ []) 0 ∷ []
 
 example-puts : putsOf 65536 example ≡ puts
-unfolding puts putsOf inputCalls linesOf withByte linesCalls lineCalls parseLine leadingDigits numberFrom accepted acceptedFrom putDue hasZero containsName same sizeOf putsSize backSize
+unfolding puts putsOf inputCalls linesOf withByte linesCalls lineCalls parseLine leadingDigits numberFrom accepted acceptedFrom putDue hasZero
+    containsName same sizeOf putsSize backSize
 example-puts = refl
 
 repeated-puts : putsOf 65536 repeatedLines ≡ entryOf (65 ∷ []) 0 ∷ entryOf (66 ∷ []) 2 ∷ []
-unfolding putsOf inputCalls linesOf withByte linesCalls lineCalls parseLine leadingDigits numberFrom accepted acceptedFrom putDue hasZero containsName same sizeOf putsSize backSize
+unfolding putsOf inputCalls linesOf withByte linesCalls lineCalls parseLine leadingDigits numberFrom accepted acceptedFrom putDue hasZero
+    containsName same sizeOf putsSize backSize
 repeated-puts = refl
 
 example-size : sizeOf Twoway puts ≡ 2166

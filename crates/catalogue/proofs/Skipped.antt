@@ -52,30 +52,30 @@ too-long s e h =
 -- ---- a long line
 
 pub long-line : (s : State) (line : List ℕ) → s .writer .length ≤ length line → afterPutLine s line ≡ s
-long-line s line h = go (parseLine line) refl
+long-line s line h = kept-by-form (parseLine line) refl
   where
-    go : (f : Form) → parseLine line ≡ f → afterPutLine s line ≡ s
-    go (entry id at) e =
+    kept-by-form : (f : Form) → parseLine line ≡ f → afterPutLine s line ≡ s
+    kept-by-form (entry id at) e =
         let n = named line id at e in
         let in-line = n .inside in
         let low = n .low in
         let l = length-drop at line in
         after-entry s line id at e ∙ too-long s (entryOf (drop at line) id) (omega arith)
-    go other e = after-other s line e
+    kept-by-form other e = after-other s line e
 
 -- ---- the buffer's length is kept
 
 put-length : (s : State) (e : Entry) → afterPut s e .writer .length ≡ s .writer .length
 unfolding afterPut appended writerAfterEntry
-put-length s e = go (eqb (putRefusal s e) 0)
+put-length s e = length-either-way (eqb (putRefusal s e) 0)
   where
-    go : (b : Bool) → cond b (appended s e) s .writer .length ≡ s .writer .length
-    go true = refl
-    go false = refl
+    length-either-way : (b : Bool) → cond b (appended s e) s .writer .length ≡ s .writer .length
+    length-either-way true = refl
+    length-either-way false = refl
 
 pub line-length : (s : State) (line : List ℕ) → afterPutLine s line .writer .length ≡ s .writer .length
-line-length s line = ap (λ (x : State). x .writer .length) (after-form s line) ∙ go (parseLine line)
+line-length s line = ap (λ (x : State). x .writer .length) (after-form s line) ∙ length-by-form (parseLine line)
   where
-    go : (f : Form) → leaves s line f .writer .length ≡ s .writer .length
-    go (entry id at) = put-length s (entryOf (drop at line) id)
-    go other = refl
+    length-by-form : (f : Form) → leaves s line f .writer .length ≡ s .writer .length
+    length-by-form (entry id at) = put-length s (entryOf (drop at line) id)
+    length-by-form other = refl

@@ -25,12 +25,12 @@ pub record Holds (g : Gathering) (p : List ℕ) : Type 0 where
 
 ended : (g : Gathering) (p : List ℕ) → Holds g p → lineEnded g .state ≡ afterPutLine (g .state) p
 unfolding lineEnded
-ended g p h = go (ltb (g .have) (length (g .room))) refl
+ended g p h = ended-by-length (ltb (g .have) (length (g .room))) refl
   where
-    go : (t : Bool) → ltb (g .have) (length (g .room)) ≡ t
+    ended-by-length : (t : Bool) → ltb (g .have) (length (g .room)) ≡ t
         → cond t (afterPutLine (g .state) (take (g .have) (g .room))) (g .state) ≡ afterPutLine (g .state) p
-    go true e = ap (afterPutLine (g .state)) (h .short (ltb-true (g .have) (length (g .room)) e) .1)
-    go false e =
+    ended-by-length true e = ap (afterPutLine (g .state)) (h .short (ltb-true (g .have) (length (g .room)) e) .1)
+    ended-by-length false e =
         let l = h .long (ltb-false (g .have) (length (g .room)) e) in
         let c = h .enough in
         sym (long-line (g .state) p (omega arith))
@@ -51,7 +51,7 @@ holds-ended g p h =
 
 holds-more : (g : Gathering) (p : List ℕ) (b : ℕ) → Holds g p → Holds (gathered g b) (p ++ (b ∷ []))
 unfolding gathered
-holds-more g p b h = go (ltb (g .have) (length (g .room))) refl
+holds-more g p b h = holds-by-length (ltb (g .have) (length (g .room))) refl
   where
     same-length : length (set (g .room) (g .have) b) ≡ length (g .room)
     same-length = length-set (g .room) (g .have) b
@@ -59,9 +59,9 @@ holds-more g p b h = go (ltb (g .have) (length (g .room))) refl
     longer : length (p ++ (b ∷ [])) ≡ length p + 1
     longer = length-append p (b ∷ [])
 
-    go : (t : Bool) → ltb (g .have) (length (g .room)) ≡ t
+    holds-by-length : (t : Bool) → ltb (g .have) (length (g .room)) ≡ t
         → Holds (record { state = g .state; room = set (g .room) (g .have) b; have = cond t (g .have + 1) (g .have) }) (p ++ (b ∷ []))
-    go true e =
+    holds-by-length true e =
         let k = ltb-true (g .have) (length (g .room)) e in
         let s = h .short k in
         let n = s .0 in
@@ -78,7 +78,7 @@ holds-more g p b h = go (ltb (g .have) (length (g .room))) refl
           long = λ l. omega arith;
           enough = omega arith;
         }
-    go false e =
+    holds-by-length false e =
         let k = ltb-false (g .have) (length (g .room)) e in
         let l = h .long k in
         let same = same-length in
@@ -98,15 +98,15 @@ takes-none g p h n =
 
 takes-more : (b : ℕ) (xs : List ℕ) → Takes xs → Takes (b ∷ xs)
 unfolding takePiece takeByte gathered
-takes-more b xs ih g p h n = go (eqb b 10) refl
+takes-more b xs ih g p h n = by-line-feed (eqb b 10) refl
   where
-    go : (t : Bool) → eqb b 10 ≡ t → inputEnded (takePiece (cond t (lineEnded g) (gathered g b)) xs) ≡ afterInput (g .state) (p ++ b ∷ xs)
-    go true e =
+    by-line-feed : (t : Bool) → eqb b 10 ≡ t → inputEnded (takePiece (cond t (lineEnded g) (gathered g b)) xs) ≡ afterInput (g .state) (p ++ b ∷ xs)
+    by-line-feed true e =
         ih (lineEnded g) [] (holds-ended g p h) tt
         ∙ ap (λ (s : State). afterInput s xs) (ended g p h)
         ∙ sym (input-feed (g .state) p xs n)
         ∙ ap (λ (k : ℕ). afterInput (g .state) (p ++ k ∷ xs)) (sym (eqb-true b 10 e))
-    go false e =
+    by-line-feed false e =
         ih (gathered g b) (p ++ (b ∷ [])) (holds-more g p b h) (no-feed-more p b n e)
         ∙ ap (afterInput (g .state)) (append-assoc p (b ∷ []) xs)
 

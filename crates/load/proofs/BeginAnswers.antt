@@ -1,12 +1,13 @@
 -- The load's answer and bytes, by what begin answered. Assumes nothing.
 use Prim.Native.Nat.{ℕ}
-use native.Mathlib.Omega.{arith}
 use mathlib.Core.Path.{_≡_, refl, sym, ap, ap₂, _∙_}
-use mathlib.Core.Bool.{Bool, true, false, cond}
+use mathlib.Core.Bool.{Bool, true, cond}
 use mathlib.Core.List.{List}
 use lib.ListN.{length, replicate}
 use lib.Dec.{eqb}
 use Rattle.jhash.specs.Outcome.{Outcome, value, refusal}
+use Rattle.jhash.proofs.ValueOrRefusal.{no-value, same-value, same-refusal}
+use Rattle.image.proofs.Bools.{chose-first, chose-second}
 use Rattle.image.specs.declared.Mode.the-variants.{Twoway}
 use Rattle.writer.specs.declared.CQDBWriter.{CQDBWriter}
 use Rattle.writer.specs.declared.Repeats.the-variants.{On}
@@ -24,45 +25,30 @@ pub record LoadClosed (seed : ℕ) (buffer : List ℕ) : Type 0 where
   pub gives : value (loadPut seed buffer .writer .entries) ≡ loading seed buffer
   pub leaves : afterClose (loadPut seed buffer) .buffer ≡ afterLoad seed buffer
 
--- a value is no refusal
-abbrev isValue : Outcome CQDBWriter → ℕ
-isValue (value w) = 1
-isValue (refusal k) = 0
-
-abbrev writerIn : CQDBWriter → Outcome CQDBWriter → CQDBWriter
-writerIn w (value x) = x
-writerIn w (refusal k) = w
-
 module _ (seed : ℕ) (buffer : List ℕ) where
   -- begin is refused, and so is the load; nothing is written
   pub refused-load : {P : Type 0} (k : ℕ) (b : Outcome CQDBWriter) → (b ≡ beginning Twoway On (length buffer)) × P → b ≡ refusal k
       → (refusal k ≡ loading seed buffer) × (buffer ≡ afterLoad seed buffer)
   unfolding beginning loading afterLoad
-  refused-load k b begun h = go (eqb (beginRefusal (length buffer)) 0) (sym (begun .0) ∙ h)
-    where
-      go : (t : Bool) → cond t (value (freshWriter Twoway On (length buffer))) (refusal (beginRefusal (length buffer))) ≡ refusal k
-          → (refusal k ≡ cond t (value (loadPut seed buffer .writer .entries)) (refusal (beginRefusal (length buffer))))
-          × (buffer ≡ cond t (afterClose (loadPut seed buffer) .buffer) buffer)
-      go true e = let z : _≡_ {A = ℕ} 1 0 = ap isValue e in absurd (omega arith)
-      go false e = (ap (λ (n : ℕ). refusal n) (ap number (sym e)), refl)
-        where
-          number : Outcome CQDBWriter → ℕ
-          number (value w) = 0
-          number (refusal n) = n
+  refused-load k b begun h =
+      let due = beginRefusal (length buffer) in
+      let w = freshWriter Twoway On (length buffer) in
+      let chosen = chose-second (eqb due 0) (value w) (refusal due) (refusal k) (λ z. no-value k w (sym z)) (sym (begun .0) ∙ h) in
+      rw (chosen .0) (ap (λ (n : ℕ). refusal n) (sym (same-refusal {A = CQDBWriter} due k (chosen .1))), refl)
 
   -- begin is accepted: the record is fresh
   pub begun-fresh : (w : CQDBWriter) (b : Outcome CQDBWriter) (lent counts : List ℕ)
       → (b ≡ beginning Twoway On (length buffer)) × (counts ≡ countsBegun (length buffer) lent) → b ≡ value w → BegunFresh buffer w counts
   unfolding beginning countsBegun fresh
-  begun-fresh w b lent counts begun is = go (eqb (beginRefusal (length buffer)) 0) refl (sym is ∙ begun .0) (begun .1)
-    where
-      go : (t : Bool) → eqb (beginRefusal (length buffer)) 0 ≡ t
-          → value w ≡ cond t (value (freshWriter Twoway On (length buffer))) (refusal (beginRefusal (length buffer)))
-          → counts ≡ cond t (replicate 256 0) lent
-          → BegunFresh buffer w counts
-      go true t e d =
-          record { accepts = t; is-fresh = ap₂ (λ (x : CQDBWriter) (l : List ℕ). stateWith x l buffer) (ap (writerIn w) e) d }
-      go false t e d = let z : _≡_ {A = ℕ} 1 0 = ap isValue e in absurd (omega arith)
+  begun-fresh w b lent counts begun is =
+      let due = beginRefusal (length buffer) in
+      let begins = freshWriter Twoway On (length buffer) in
+      let chosen = chose-first (eqb due 0) (value begins) (refusal due) (value w) (no-value due w) (sym (begun .0) ∙ is) in
+      let cleared : counts ≡ replicate 256 0 = begun .1 ∙ ap (λ (t : Bool). cond t (replicate 256 0) lent) (chosen .0) in
+      record {
+        accepts = chosen .0;
+        is-fresh = ap₂ (λ (x : CQDBWriter) (l : List ℕ). stateWith x l buffer) (sym (same-value begins w (chosen .1))) cleared;
+      }
 
   pub accepted-load : eqb (beginRefusal (length buffer)) 0 ≡ true → LoadClosed seed buffer
   unfolding loading afterLoad

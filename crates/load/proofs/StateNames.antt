@@ -21,11 +21,11 @@ state-word seed n = mod-lt (1664525 * stateAfter seed n + 1013904223) {m = 2 ^ 3
 
 -- a digit is no zero byte
 digit-nonzero : (d : ℕ) → eqb (hexDigit d) 0 ≡ false
-digit-nonzero d = go (ltb d 10)
+digit-nonzero d = nonzero-by-kind (ltb d 10)
   where
-    go : (t : Bool) → eqb (cond t (48 + d) (55 + d)) 0 ≡ false
-    go true = ne-eqb (48 + d) 0 (λ h. omega arith)
-    go false = ne-eqb (55 + d) 0 (λ h. omega arith)
+    nonzero-by-kind : (t : Bool) → eqb (cond t (48 + d) (55 + d)) 0 ≡ false
+    nonzero-by-kind true = ne-eqb (48 + d) 0 (λ h. omega arith)
+    nonzero-by-kind false = ne-eqb (55 + d) 0 (λ h. omega arith)
 
 pub name-free : (s : ℕ) → hasZero (stateName s) ≡ false
 unfolding stateName hasZero
@@ -44,19 +44,20 @@ abbrev digitRead : ℕ → ℕ
 digitRead b = cond (ltb b 58) (b - 48) (b - 55)
 
 digit-read : (d : ℕ) → d < 16 → digitRead (hexDigit d) ≡ d
-digit-read d h = go (ltb d 10) refl
+digit-read d h = read-by-kind (ltb d 10) refl
   where
-    go : (t : Bool) → ltb d 10 ≡ t → digitRead (cond t (48 + d) (55 + d)) ≡ d
-    go true e =
+    read-by-kind : (t : Bool) → ltb d 10 ≡ t → digitRead (cond t (48 + d) (55 + d)) ≡ d
+    read-by-kind true e =
         let low : 48 + d < 58 = omega (arith, ltb-true d 10 e) in
         ap (λ (t : Bool). cond t (48 + d - 48) (48 + d - 55)) (lt-ltb (48 + d) 58 low) ∙ omega arith
-    go false e =
+    read-by-kind false e =
         let high : 58 ≤ 55 + d = omega (arith, ltb-false d 10 e) in
         ap (λ (t : Bool). cond t (55 + d - 48) (55 + d - 55)) (le-ltb (55 + d) 58 high) ∙ omega arith
 
 -- eight digits of a word: each one more gives one division by 16 less
 word-digits : (s : ℕ) → s < 2 ^ 32
-    → ((((((((0 * 16 + s / 268435456 % 16) * 16 + s / 16777216 % 16) * 16 + s / 1048576 % 16) * 16 + s / 65536 % 16) * 16 + s / 4096 % 16) * 16 + s / 256 % 16) * 16 + s / 16 % 16) * 16 + s % 16) ≡ s
+    → ((((((((0 * 16 + s / 268435456 % 16) * 16 + s / 16777216 % 16) * 16 + s / 1048576 % 16) * 16 + s / 65536 % 16) * 16 + s / 4096 % 16) * 16 + s / 256 % 16)
+    * 16 + s / 16 % 16) * 16 + s % 16) ≡ s
 word-digits s h =
     let d7 : 0 * 16 + s / 268435456 % 16 ≡ s / 268435456 = omega arith in
     let d6 : s / 268435456 * 16 + s / 16777216 % 16 ≡ s / 16777216 = omega arith in

@@ -4,7 +4,7 @@ use native.Mathlib.Omega.{arith}
 use native.Mathlib.Decide.{decLt}
 use native.Mathlib.Numerals.{add-one}
 use mathlib.Core.Path.{_≡_, refl, sym, ap, _∙_}
-use mathlib.Core.Bool.{Bool, true, false, cond, _||_}
+use mathlib.Core.Bool.{Bool, false, cond, _||_, or-assoc, or-false}
 use mathlib.Core.List.{List, [], _∷_}
 use borrow.Author.Tests.{ltb-false, ne-eqb}
 use lib.Dec.{ltb, eqb}
@@ -79,22 +79,17 @@ unfolding invalidEnds
 invalid-ends-step size s ends i b x h p =
     let e : suc i ≡ i + 1 = omega arith in
     let end = getD ends i 0 in
-    assoc b (ltb end s) (ltb size end) (invalidEnds size end (drop (i + 1) ends))
+    let rest = invalidEnds size end (drop (i + 1) ends) in
+    ap (λ (t : Bool). t || rest) (or-assoc b (ltb end s) (ltb size end))
+    ∙ or-assoc b (ltb end s || ltb size end) rest
     ∙ ap (λ (k : ℕ). b || ((ltb end s || ltb size end) || invalidEnds size end (drop k ends))) (sym e)
     ∙ sym (ap (λ (l : List ℕ). b || invalidEnds size s l) (drop-cons ends i 0 h))
     ∙ p
-  where
-    assoc : (a b c d : Bool) → (((a || b) || c) || d) ≡ (a || ((b || c) || d))
-    assoc true b c d = refl
-    assoc false b c d = refl
 
 pub invalid-ends-none : (size s : ℕ) (ends : List ℕ) (i : ℕ) (b x : Bool) → length ends ≤ i → (b || invalidEnds size s (drop i ends)) ≡ x → b ≡ x
 unfolding invalidEnds
-invalid-ends-none size s ends i b x h p = none b (ap (λ (l : List ℕ). b || invalidEnds size s l) (sym (drop-of-length-le ends {i = i} h)) ∙ p)
-  where
-    none : (b : Bool) → (b || false) ≡ x → b ≡ x
-    none true q = q
-    none false q = q
+invalid-ends-none size s ends i b x h p =
+    sym (or-false b) ∙ ap (λ (l : List ℕ). b || invalidEnds size s l) (sym (drop-of-length-le ends {i = i} h)) ∙ p
 
 -- ---- where names begin
 

@@ -55,7 +55,8 @@ loop-holds c =
     record {
       holds = s .pre .holds;
       rest =
-          subst (Remaining (roundSlot hashes (s .args .slots .now)) (equalTo (xs s) (s .args .i)) (getD hashes (s .args .i) 0) 4096 4096) (sym (c .start .ensures .is))
+          subst (Remaining (roundSlot hashes (s .args .slots .now)) (equalTo (xs s) (s .args .i)) (getD hashes (s .args .i) 0) 4096 4096)
+          (sym (c .start .ensures .is))
           (remaining-start (roundSlot hashes (s .args .slots .now)) (equalTo (xs s) (s .args .i)) (getD hashes (s .args .i) 0) 4096 (omega arith));
     }
 

@@ -97,7 +97,8 @@ loop-again c =
       offsets-long = simp length-set (v .offsets-long);
       unread = unread-step (v .open-or-decided) i (b .probe-next .result .offset) (b .probe-next .result .on) (own at) room (v .unread);
       open-or-decided =
-          open-or-decided-step (v .open-or-decided) i (b .probe-next .result .offset) (b .probe-next .result .on) (own at) room (b .probe-next .ensures) (start at .pre .rising) more
+          open-or-decided-step (v .open-or-decided) i (b .probe-next .result .offset) (b .probe-next .result .on) (own at) room (b .probe-next .ensures)
+          (start at .pre .rising) more
           (omega (arith, v .done-long, start at .pre .done-capacity, v .open-or-decided .count))
           (omega (arith, v .offsets-long, start at .pre .offsets-capacity, v .open-or-decided .count));
     }
