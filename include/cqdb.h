@@ -411,7 +411,7 @@ static inline uint32_t cqdb_begin_repeats(cqdb_writer *w, uint32_t mode, const u
 
    With repeats off a put walks all earlier entries, some 5 ns for each with names of 9 bytes. So n puts take n x n / 2 such
    steps: 40 ms for 4,096 names, half a minute for 100,000. With repeats on a put does not look at them: 4,096 puts take
-   0.1 ms, 100,000 take 3 ms. With repeats off cqdb_put_indexed takes as little.
+   0.1 ms, 100,000 take 3 ms. cqdb_put_indexed takes as little with repeats off, and less with repeats on.
 
    The bytes at w->end are those where the last close placed its tables. After an accepted put the buffer is therefore no
    image, though its head is still that of the last close and cqdb_open may accept it. After A->0, B->1, close and C->2,
@@ -451,7 +451,10 @@ static inline cqdb_close_answer cqdb_close(const cqdb_writer *w, uint8_t *buf, s
    calls of any kind do not matter. For a writer that is fresh from cqdb_begin, words that are all 0 are right as well. Whatever
    else the words hold, no call touches anything outside what it is lent, each call ends, a refusal changes nothing, and an
    accepted put appends exactly its entry, whose name has no zero byte; but a put may be refused with 16 or 24 without need, or a
-   name be accepted that an earlier entry has. */
+   name be accepted that an earlier entry has.
+
+   With repeats on no name is sought, and cqdb_put_indexed reads and writes no slot: any words are right for a writer from
+   cqdb_begin_repeats, n may be 0, and 24 does not occur. It then saves put's look at all 256 counts. */
 
 /* How many words to lend for so many names: 4 for each, so that the index is half full at the end; 2^64 - 1 where that is more
    than a size can be. An index of n words, an odd last one apart, has room for n / 2 names. The fuller it gets the longer a put
@@ -474,15 +477,15 @@ static inline uint32_t cqdb_index(const cqdb_writer *w, const uint8_t *buf, size
 }
 
 /* By a right index: cqdb_put with the writer's own choice of repeats, and the index is right again. Gives 0, or put's refusals in
-   put's order (2, 13, 16, 3; not 4, since the entries of a right index are the writer's), or else 24 when every slot is taken; the
-   put would be accepted by a larger index. Appends the entry, raises the writer's numbers and writes the two words of a slot, and
-   changes no other byte.
+   put's order (2, 13, 16, 3; not 4, since the entries of a right index are the writer's), or else 24 when repeats are off and every
+   slot is taken; the put would be accepted by a larger index. Appends the entry, raises the writer's numbers, with repeats off writes
+   the two words of a slot, and changes no other byte.
 
    By any other words, and with any writer, it gives the first that applies: 2 when the writer's mode, repeats, length or end does not
    fit the buffer; 13 when the name has a zero byte; 3 for a name of 4,294,967,295 bytes or more; 16 when repeats are off and a slot,
    before the first empty one from hash / 256 modulo n / 2 on, has the name's hash and the offset of an entry of this name before
-   w->end; 3 when the finished size is too large, as in cqdb_put; 2 when the count of the name's table cannot be raised; 24 when no
-   slot is empty; else 0. Other counts and other entries are not looked at: where cqdb_put gives 2 or 4 for them, this may give 0. */
+   w->end; 3 when the finished size is too large, as in cqdb_put; 2 when the count of the name's table cannot be raised; 24 when
+   repeats are off and no slot is empty; else 0. Other counts and other entries are not looked at: where cqdb_put gives 2 or 4 for them, this may give 0. */
 static inline uint32_t cqdb_put_indexed(cqdb_writer *w, uint8_t *buf, size_t len, uint32_t *slots, size_t n,
                                         const uint8_t *name, size_t name_len, uint32_t id) {
     return cqdb_put_indexed_parts(&w->mode, &w->length, w->counts, buf, len, slots, n, name, name_len, id);

@@ -58,8 +58,9 @@ class Writer:
         self._lock = threading.RLock()
         self._busy = False
         mode, again = choice("one_way", one_way), choice("repeats", repeats)
-        # Words that are all 0 are the index of a writer without entries.
-        self._held = _Held(Record(), Counts(), zeros(FIRST_LENGTH), _words(FIRST_NAMES), FIRST_NAMES)
+        # Words that are all 0 are the index of a writer without entries. With repeats a put looks for no name, and needs none.
+        slots, names = ((ctypes.c_uint32 * 0)(), LARGEST_IMAGE) if again else (_words(FIRST_NAMES), FIRST_NAMES)
+        self._held = _Held(Record(), Counts(), zeros(FIRST_LENGTH), slots, names)
         accept(calls.cqdb_begin_parts(mode, again, *self._held.parts[:5]))
 
     def __len__(self) -> int:

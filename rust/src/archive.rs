@@ -554,7 +554,9 @@ fn read_in_place(record: &Record) -> (*const u32, *const u64) {
     (record.cast(), unsafe { std::ptr::addr_of!((*record).length) })
 }
 
-/// One put; 0, or the refusal. The record is changed in place.
+/// One put; 0, or the refusal. The record is changed in place. The writers put by an index, or without slots; the comparisons and the
+/// benchmarks put by this, too.
+#[allow(dead_code)]
 #[inline]
 pub fn put_in(record: &mut Record, counts: &mut Counts, buf: &mut [u8], name: &[u8], id: u32) -> u32 {
     let (numbers, sizes) = in_place(record);

@@ -138,13 +138,16 @@ impl MemoryWriter {
     }
 
     fn put_here(&mut self, name: &[u8], id: u32) -> Result<(), Refusal> {
-        let Some(index) = &mut self.index else {
-            return refusal::or(archive::put_in(&mut self.record, &mut self.counts, &mut self.buffer, name, id), ());
+        let slots: &mut [u32] = match &mut self.index {
+            Some(index) => {
+                if index.names <= self.record.entries {
+                    index.enlarge(self.record, &self.counts, &self.buffer);
+                }
+                &mut index.slots
+            }
+            // With repeats on a put looks for no name, and needs no slots.
+            None => &mut [],
         };
-        if index.names <= self.record.entries {
-            index.enlarge(self.record, &self.counts, &self.buffer);
-        }
-        let slots = &mut index.slots;
         let refusal = archive::put_indexed(&mut self.record, &mut self.counts, &mut self.buffer, slots, name, id);
         refusal::or(refusal, ())
     }

@@ -29,23 +29,26 @@ pub fn refusal(record: &Record, counts: &Counts, buf: &[u8], slots: &[u32], (nam
     if name.contains(&0) {
         return 13;
     }
+    let size = size_after(record, name, id);
+    let late = if size > length || size > LARGEST {
+        3
+    } else if counts[hash as usize % 256] == u32::MAX {
+        2
+    } else {
+        0
+    };
+    if record.repeats == 1 {
+        return late;
+    }
     let m = slots.len() / 2;
     let sequence: Vec<usize> = (0..m).map(|i| (hash as usize / 256 + i) % m).take_while(|k| slots[2 * k + 1] != 0).collect();
     let entries = &buf[..record.end as usize];
     let duplicate = |k: &usize| slots[2 * k] == hash && has_name(entries, slots[2 * k + 1] as usize, name);
-    if record.repeats == 0 && sequence.iter().any(duplicate) {
+    if sequence.iter().any(duplicate) {
         return 16;
     }
-    let size = size_after(record, name, id);
-    if size > length || size > LARGEST {
-        return 3;
+    if late == 0 && sequence.len() == m {
+        return 24;
     }
-    if counts[hash as usize % 256] == u32::MAX {
-        return 2;
-    }
-    if sequence.len() == m {
-        24
-    } else {
-        0
-    }
+    late
 }

@@ -137,7 +137,9 @@ impl Run {
     fn put(&mut self, p: &mut Pair, name: &[u8], id: u32) -> u32 {
         let (m, before) = (p.by.slots.seen().len() / 2, p.by.clone());
         let refusal = p.by.put(name, id);
-        let full = p.entries.len() >= m;
+        // With repeats on no name is sought: no slot is needed, none is read or written.
+        let seeks = p.record.repeats == 0;
+        let full = seeks && p.entries.len() >= m;
         let (mut counts, mut buf) = (p.counts, if full { p.buf.clone() } else { vec![] });
         // By a full index the put without one is tried on a copy: 24 comes where it is accepted.
         let answer = match full {
@@ -149,7 +151,9 @@ impl Run {
         if due == 0 {
             let (hash, at) = (plain::hash(name), p.record.end as u32);
             let mut slots = before.slots.clone();
-            insert(slots.inner(), hash, at);
+            if seeks {
+                insert(slots.inner(), hash, at);
+            }
             self.tally.rule(p.by.slots.all == slots.all, true, || format!("the slots after a put of {name:?}"));
             p.record = answer.record;
             p.entries.push((hash, at));
@@ -205,7 +209,7 @@ impl Run {
         self.tally.rule(slots.seen() == left && slots.guarded(), true, || format!("the {words} words of an index"));
         self.beside(p);
         self.indexes += 1;
-        if due == 0 && words == p.by.slots.seen().len() && words % 2 == 0 {
+        if due == 0 && p.record.repeats == 0 && words == p.by.slots.seen().len() && words % 2 == 0 {
             self.tally.rule(slots.all == p.by.slots.all, true, || "an index made again and the one kept".into());
         }
         if keep && due == 0 {
@@ -272,11 +276,12 @@ impl Run {
             appended(&mut due, &name, id);
             let (hash, at) = (plain::hash(&name), due.writer.record.end as usize - name.len() - 9);
             let stored = (0..s.slots.seen().len() / 2).find(|k| s.slots.seen()[2 * k..2 * k + 2] != due.slots.seen()[2 * k..2 * k + 2]);
-            if let Some(k) = stored {
+            if let (Some(k), 0) = (stored, due.writer.record.repeats) {
                 self.tally.rule(due.slots.seen()[2 * k + 1], 0, || "the slot of a wild put was empty".into());
                 (due.slots.inner()[2 * k], due.slots.inner()[2 * k + 1]) = (hash, at as u32);
             }
-            self.tally.rule(stored.is_some() && s.same(&due), true, || "an accepted put by wild slots leaves its entry and its slot".into());
+            let seeks = due.writer.record.repeats == 0;
+            self.tally.rule(stored.is_some() == seeks && s.same(&due), true, || "an accepted put by wild slots leaves its entry and its slot".into());
         } else {
             self.tally.rule(s.same(&before), true, || format!("what a put by wild slots refused with {refusal} leaves"));
         }

@@ -4,7 +4,7 @@ use native.Mathlib.Omega.{arith}
 use native.Mathlib.Decide.{ℕ-discrete}
 use native.Mathlib.Nat.{mod-lt}
 use mathlib.Core.Path.{_≡_, refl, sym, ap, _∙_}
-use mathlib.Core.Bool.{Bool, true, false, _&&_, and-false}
+use mathlib.Core.Bool.{Bool, true, false}
 use mathlib.Core.List.{List, [], _∷_}
 use mathlib.Core.Logic.{inl, inr}
 use lib.ListN.{length, getD, take, length-take}
@@ -12,7 +12,6 @@ use Rattle.jhash.specs.NameHash.{hashOf}
 use Rattle.image.specs.Tables.{Bucket, empty, tableOf, start, probeSequence, filled}
 use Rattle.image.specs.Image.{Entry, headSize, placed, containsName}
 use Rattle.image.proofs.EntryArea.{AllBytes}
-use Rattle.image.proofs.Bools.{false-not-true}
 use Rattle.image.proofs.AllOfList.{All}
 use Rattle.image.proofs.Equal.{same-lengths}
 use Rattle.lookup_laws.proofs.EntriesOf.{names-short}
@@ -21,11 +20,11 @@ use Rattle.lookup_laws.proofs.Matching.{hasMatch-equal}
 use Rattle.writer.specs.State.{State}
 use Rattle.writer.specs.Close.{recorded, closeRefusal}
 use Rattle.lists.proofs.Closable.{end-small, entries-stand, ids-are, ends}
-use Rattle.index.specs.Index.{slotCount, slotAt, slotSequence}
+use Rattle.index.specs.Index.{slotCount, slotAt, slotSequence, seeks}
 use Rattle.index.specs.steps.Part.{PartIndex, partBuckets}
-use Rattle.index.specs.Probe.{hasNameAt, duplicateAt, probeSlots}
+use Rattle.index.specs.Probe.{hasNameAt, probeSlots}
 use Rattle.index.proofs.EntryNames.{part-occupied, all-decided, Decides, not-contained, contained}
-use Rattle.index.proofs.Probing.{Result, result, never-matches}
+use Rattle.index.proofs.Probing.{Result, result}
 use Rattle.lookup_laws.proofs.SlotSearch.{none-empty, some-empty}
 
 -- no entry has a name that is longer than all entries
@@ -39,17 +38,18 @@ pub long-absent : (s : State) → AllBytes (s .buffer) → closeRefusal s ≡ 0 
 long-absent s bytes closes name h =
     holds-longer name (recorded s) (names-short (length name) (recorded s) (omega (arith, end-small s bytes closes, ends s bytes closes)))
 
-module _ {s : State} {words : List ℕ} {from : ℕ} (bytes : AllBytes (s .buffer)) (closes : closeRefusal s ≡ 0) (part : PartIndex from s words) where
+module _ {s : State} {words : List ℕ} {from : ℕ} (bytes : AllBytes (s .buffer)) (closes : closeRefusal s ≡ 0) (off : seeks s ≡ true)
+    (part : PartIndex from s words) where
   abbrev es : List Entry
   es = recorded s
 
   abbrev m : ℕ
   m = slotCount words
 
-  -- what the result r of a put's probe says, where t tells that duplicates are refused
-  pub record PutProbe (name : List ℕ) (t : Bool) (r : ℕ) : Type 0 where
-    pub found : slotCount words < r → (containsName name (recorded s) && t) ≡ true
-    pub absent : r ≤ slotCount words → (containsName name (recorded s) && t) ≡ false
+  -- what the result r of a put's probe says
+  pub record PutProbe (name : List ℕ) (r : ℕ) : Type 0 where
+    pub found : slotCount words < r → containsName name (recorded s) ≡ true
+    pub absent : r ≤ slotCount words → containsName name (recorded s) ≡ false
     pub spare : r < slotCount words → length (partBuckets from (recorded s)) < slotCount words
     pub full : r ≡ slotCount words → slotCount words ≤ length (partBuckets from (recorded s))
 
@@ -79,26 +79,21 @@ module _ {s : State} {words : List ℕ} {from : ℕ} (bytes : AllBytes (s .buffe
     equal (yes z) =
         ap (λ (n : ℕ). hasMatch (slotAt words) h v (probeSequence m n (start h m))) z
         ∙ sym (ap (λ (n : ℕ). hasMatch table h v (probeSequence m n (start h m))) z)
-    equal (no z) = hasMatch-equal (slotAt words) table h v m (part .slots .each) m (start h m) (mod-lt (h / 256) (omega (arith, z)))
+    equal (no z) = hasMatch-equal (slotAt words) table h v m (part .slots off .each) m (start h m) (mod-lt (h / 256) (omega (arith, z)))
 
     none-has : hasMatch (slotAt words) h v ks ≡ false → containsName name es ≡ false
-    none-has e = not-contained name v m from es (part .capacity) decided own (ℕ-discrete m 0) (sym (equal (ℕ-discrete m 0)) ∙ e)
+    none-has e = not-contained name v m from es (part .capacity off) decided own (ℕ-discrete m 0) (sym (equal (ℕ-discrete m 0)) ∙ e)
 
-    found-by : (t : Bool) → hasMatch (slotAt words) h (duplicateAt t img name) ks ≡ true → (containsName name es && t) ≡ true
-    found-by true e = ap (λ (b : Bool). b && true) (contained name v m from es (part .capacity) decided ks (sym (equal (ℕ-discrete m 0)) ∙ e))
-    found-by false e = absurd (false-not-true (sym (never-matches (slotAt words) h ks) ∙ e))
+    has-one : hasMatch (slotAt words) h v ks ≡ true → containsName name es ≡ true
+    has-one e = contained name v m from es (part .capacity off) decided ks (sym (equal (ℕ-discrete m 0)) ∙ e)
 
-    absent-by : (t : Bool) → hasMatch (slotAt words) h (duplicateAt t img name) ks ≡ false → (containsName name es && t) ≡ false
-    absent-by true e = ap (λ (b : Bool). b && true) (none-has e)
-    absent-by false e = and-false (containsName name es)
-
-    pub put-probe : (t : Bool) → PutProbe name t (probeSlots words (hashOf name) (duplicateAt t (take (s .writer .end) (s .buffer)) name))
-    put-probe t = by (result words h (duplicateAt t img name))
+    pub put-probe : PutProbe name (probeSlots words (hashOf name) (hasNameAt (take (s .writer .end) (s .buffer)) name))
+    put-probe = by (result words h v)
       where
-        by : Result words h (duplicateAt t img name) ks → PutProbe name t (probeSlots words h (duplicateAt t img name))
+        by : Result words h v ks → PutProbe name (probeSlots words h v)
         by (inl o) =
             record {
-              found = λ l. found-by t (o .matching);
+              found = λ l. has-one (o .matching);
               absent = λ l. absurd (omega (arith, l, o .is));
               spare = λ l. absurd (omega (arith, l, o .is));
               full = λ l. absurd (omega (arith, l, o .is));
@@ -106,14 +101,14 @@ module _ {s : State} {words : List ℕ} {from : ℕ} (bytes : AllBytes (s .buffe
         by (inr (inl o)) =
             record {
               found = λ l. absurd (omega (arith, l, o .below));
-              absent = λ l. absent-by t (o .matching);
-              spare = λ l. some-empty (part .slots) (part .capacity) (part-occupied from es) h (o .some);
+              absent = λ l. none-has (o .matching);
+              spare = λ l. some-empty (part .slots off) (part .capacity off) (part-occupied from es) h (o .some);
               full = λ l. absurd (omega (arith, l, o .below));
             }
         by (inr (inr o)) =
             record {
               found = λ l. absurd (omega (arith, l, o .is));
-              absent = λ l. absent-by t (o .matching);
+              absent = λ l. none-has (o .matching);
               spare = λ l. absurd (omega (arith, l, o .is));
-              full = λ l. none-empty (part .slots) (part .capacity) (part-occupied from es) h (o .full);
+              full = λ l. none-empty (part .slots off) (part .capacity off) (part-occupied from es) h (o .full);
             }

@@ -61,7 +61,7 @@ module _ (s : State) (words : List ℕ) (r : ℕ) (answer : r ≡ closeRefusal s
       is-made = rw (eq-eqb (closeRefusal s) 0 closes, le-ltb (slotCount words) (s .writer .entries) room) (sym closes)
 
       is-right : length (s .counts) ≡ 256 → Right s words′
-      is-right tables = record { closes = closes; tables = tables; capacity = omega (arith, room, fills .long, long); slots = fills .slots }
+      is-right tables = record { closes = closes; tables = tables; capacity = λ off. omega (arith, room, fills .long, long); slots = λ off. fills .slots }
 
       pub index-made : Indexed s words 0 words′
       index-made =

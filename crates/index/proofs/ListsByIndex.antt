@@ -11,7 +11,7 @@ use lib.ListN.{length, length-append}
 use Rattle.image.specs.declared.Mode.{Mode}
 use Rattle.image.specs.Image.{Entry, headSize}
 use Rattle.writer.specs.declared.Repeats.{Repeats}
-use Rattle.writer.specs.State.{State, fresh}
+use Rattle.writer.specs.State.{State, fresh, refusesRepeats}
 use Rattle.writer.specs.Put.{putRefusal, afterPut}
 use Rattle.writer.specs.Close.{afterClose, closedImage}
 use Rattle.writer.proofs.Puts.{refused-leaves, accepted-leaves}
@@ -22,7 +22,6 @@ use Rattle.lists.specs.theorems.LongerBuffer.{movedTo}
 use Rattle.lists.proofs.ListWritten.{Written}
 use Rattle.lists.proofs.ListPuts.{put-due}
 use Rattle.lists.proofs.ListCloses.{close-accepted, close-written}
-use Rattle.lists.proofs.WrittenRecord.{written-recorded}
 use Rattle.lists.proofs.CallLists.{list-answers, list-accepted}
 use Rattle.index.specs.Index.{slotCount, Right, indexRefusal}
 use Rattle.index.specs.Promise.{Indexed}
@@ -127,7 +126,7 @@ module _ (mode : Mode) (repeats : Repeats) where
       let n = length (l .buffer) in
       let w = left-written mode repeats left in
       let none = close-accepted mode repeats n es s w in
-      let still = right-written right (written-recorded mode repeats n es s w) (w .entries) (close-written mode repeats n es s w) in
+      let still = right-written right w (close-written mode repeats n es s w) in
       kept-call close r (λ z. omega (arith, z, run .0, none)) (run .0 ∙ none)
       (along cs m (more l close r) (es ++ []) (afterClose s) words (left-call mode repeats left close r (run .0) (word .0)) still size (word .1)
       rs t words′ (run .1))
@@ -185,15 +184,18 @@ module _ (mode : Mode) (repeats : Repeats) where
             (enough-none cs m n (acceptedAfter mode repeats n es c) (h .1)),
       )
     where
-      same : (c : Call) → length (acceptedAfter mode repeats n es c) ≤ m → dueToIndexed m mode repeats n es c ≡ dueTo mode repeats n es c
+      same : (c : Call) → (refusesRepeats repeats ≡ true → length (acceptedAfter mode repeats n es c) ≤ m)
+          → dueToIndexed m mode repeats n es c ≡ dueTo mode repeats n es c
       same close few = refl
-      same (put e) few = by-due (eqb (putDue mode repeats n es e) 0) refl
+      same (put e) few = by-due (refusesRepeats repeats) refl (eqb (putDue mode repeats n es e) 0) refl
         where
-          by-due : (b : Bool) → eqb (putDue mode repeats n es e) 0 ≡ b → dueToIndexed m mode repeats n es (put e) ≡ putDue mode repeats n es e
-          by-due true x =
+          by-due : (q : Bool) → refusesRepeats repeats ≡ q → (b : Bool) → eqb (putDue mode repeats n es e) 0 ≡ b
+              → dueToIndexed m mode repeats n es (put e) ≡ putDue mode repeats n es e
+          by-due true off true x =
               let one : length (acceptedAfter mode repeats n es (put e)) ≡ length (es ++ (e ∷ [])) = ap (λ (b : Bool). length (es ++ cond b (e ∷ []) [])) x in
-              rw (x, lt-leb m (length es) (omega (arith, one, length-append es (e ∷ []), few))) refl
-          by-due false x = rw x refl
+              rw (off, x, lt-leb m (length es) (omega (arith, one, length-append es (e ∷ []), few off))) refl
+          by-due true off false x = rw (off, x) refl
+          by-due false on b x = rw on refl
   enough-none (grow longer ∷ cs) m n es h = ((λ z. omega (arith, z)), enough-none cs m (length longer) es h)
   enough-none (anew lent ∷ cs) m n es h =
       let none : dueToAnew (slotCount lent) es ≡ 0 = ap (λ (b : Bool). cond {A = ℕ} b 24 0) (le-ltb (slotCount lent) (length es) (h .0)) in (
@@ -211,12 +213,13 @@ module _ (mode : Mode) (repeats : Repeats) where
     longer-list (c ∷ cs) es =
         omega (arith, longer-list cs (acceptedAfter mode repeats n es c), length-append es (acceptedOne c (dueTo mode repeats n es c)))
 
-    enough-calls : (m : ℕ) (cs : List Call) (es : List Entry) → length (acceptedFrom mode repeats n es cs) ≤ m → Enough m mode repeats n es (map call cs)
+    enough-calls : (m : ℕ) (cs : List Call) (es : List Entry) → (refusesRepeats repeats ≡ true → length (acceptedFrom mode repeats n es cs) ≤ m)
+        → Enough m mode repeats n es (map call cs)
     unfolding acceptedFrom
     enough-calls m [] es few = tt
     enough-calls m (c ∷ cs) es few =
         let more = longer-list cs (acceptedAfter mode repeats n es c) in
-        (omega (arith, more, few), enough-calls m cs (acceptedAfter mode repeats n es c) few)
+        ((λ off. omega (arith, more, few off)), enough-calls m cs (acceptedAfter mode repeats n es c) few)
 
     length-due : (m : ℕ) (cs : List Call) (es : List Entry) → length (dueIndexed m mode repeats n es (map call cs)) ≡ length cs
     unfolding dueIndexed
@@ -224,21 +227,22 @@ module _ (mode : Mode) (repeats : Repeats) where
     length-due m (c ∷ cs) es = omega (arith, length-due m cs (es ++ acceptedOne c (dueToIndexed m mode repeats n es c)))
 
     -- once every slot is taken
-    full-due : (m : ℕ) (es : List Entry) → m ≤ length es → (c : Call) → es ++ acceptedOne c (dueToIndexed m mode repeats n es c) ≡ es
-    full-due m es l close = append-nil es
-    full-due m es l (put e) = by-due (eqb (putDue mode repeats n es e) 0) refl
+    full-due : (m : ℕ) (es : List Entry) → refusesRepeats repeats ≡ true → m ≤ length es → (c : Call)
+        → es ++ acceptedOne c (dueToIndexed m mode repeats n es c) ≡ es
+    full-due m es off l close = append-nil es
+    full-due m es off l (put e) = by-due (eqb (putDue mode repeats n es e) 0) refl
       where
         by-due : (b : Bool) → eqb (putDue mode repeats n es e) 0 ≡ b → es ++ acceptedOne (put e) (dueToIndexed m mode repeats n es (put e)) ≡ es
-        by-due true x = rw (x, le-leb m (length es) l) (append-nil es)
-        by-due false x = rw (x, x) (append-nil es)
+        by-due true x = rw (off, x, le-leb m (length es) l) (append-nil es)
+        by-due false x = rw (off, x, x) (append-nil es)
 
-    each-full : (m : ℕ) (cs : List Call) (es : List Entry) → m ≤ length es
+    each-full : (m : ℕ) (cs : List Call) (es : List Entry) → refusesRepeats repeats ≡ true → m ≤ length es
         → dueIndexed m mode repeats n es (map call cs) ≡ map (dueToIndexed m mode repeats n es) cs
     unfolding dueIndexed
-    each-full m [] es l = refl
-    each-full m (c ∷ cs) es l =
+    each-full m [] es off l = refl
+    each-full m (c ∷ cs) es off l =
         ap (cons (dueToIndexed m mode repeats n es c))
-        (ap (λ (fs : List Entry). dueIndexed m mode repeats n fs (map call cs)) (full-due m es l c) ∙ each-full m cs es l)
+        (ap (λ (fs : List Entry). dueIndexed m mode repeats n fs (map call cs)) (full-due m es off l c) ∙ each-full m cs es off l)
 
 -- nothing is left out
 plain-calls : (l : Plain) (cs : List Call) (rs : List ℕ) → length rs ≡ length cs → NoneFull rs
@@ -291,13 +295,13 @@ module _ (mode : Mode) (repeats : Repeats) (buffer words : List ℕ) (rs : List 
       }
 
   of-calls : (cs : List Call) → WordIds mode cs → Run (fresh mode repeats buffer) words (map call cs) rs t words′
-      → length (acceptedPuts mode repeats buffer cs) ≤ slotCount words → RunOfCalls mode repeats buffer cs rs t
+      → (refusesRepeats repeats ≡ true → length (acceptedPuts mode repeats buffer cs) ≤ slotCount words) → RunOfCalls mode repeats buffer cs rs t
   unfolding accepted imageOf
   of-calls cs word run few =
       let n = length buffer in
       let a = by-index (map call cs) (subst (WordIds mode) (sym (calls-back cs)) word) run in
-      let some : length (acceptedFrom mode repeats n [] cs) ≤ slotCount words =
-      omega (arith, few, ap length (list-accepted mode repeats buffer room cs word)) in
+      let some : refusesRepeats repeats ≡ true → length (acceptedFrom mode repeats n [] cs) ≤ slotCount words =
+      λ off. omega (arith, few off, ap length (list-accepted mode repeats buffer room cs word)) in
       let none = a .enough (enough-calls mode repeats n (slotCount words) cs [] some) in
       let whole = plain-calls none-yet cs rs (ap length (a .answered) ∙ length-due mode repeats n (slotCount words) cs []) none in
       let left : t ≡ afterList mode repeats buffer cs = a .leaves ∙ ap (λ (l : Plain). afterList mode repeats (l .buffer) (l .calls)) whole in
@@ -316,5 +320,5 @@ lists-by-index =
       runs = λ mode repeats buffer words cs rs t words′ room word right run. by-index mode repeats buffer words rs t words′ room right cs word run;
       calls = λ mode repeats buffer words cs rs t words′ room word right run few.
           of-calls mode repeats buffer words rs t words′ room right cs word run few;
-      from-then = λ m mode repeats n es cs l. each-full mode repeats n m cs es l;
+      from-then = λ m mode repeats n es cs off l. each-full mode repeats n m cs es off l;
     }

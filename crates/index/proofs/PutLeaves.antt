@@ -3,10 +3,10 @@ use Prim.Native.Nat.{ℕ, _^_, _≤_, _<_}
 use native.Mathlib.Omega.{arith}
 use native.Mathlib.Decide.{ℕ-discrete}
 use mathlib.Core.Path.{_≡_, refl, sym, ap, ap₂, subst, _∙_}
-use mathlib.Core.Bool.{Bool, false, cond}
+use mathlib.Core.Bool.{Bool, true, false, cond}
 use mathlib.Core.List.{List}
-use borrow.Author.Tests.{eq-eqb, ne-eqb}
-use lib.Dec.{eqb}
+use borrow.Author.Tests.{eq-eqb, ne-eqb, lt-ltb, le-ltb}
+use lib.Dec.{eqb, ltb}
 use lib.ListN.{length}
 use Rattle.jhash.specs.NameHash.{hashOf}
 use Rattle.image.specs.Tables.{tableOf}
@@ -17,7 +17,7 @@ use Rattle.writer.specs.Put.{putRefusal, repeated, appended, afterPut}
 use Rattle.writer.specs.Close.{recorded}
 use Rattle.writer.proofs.Puts.{refused-leaves, accepted-leaves}
 use Rattle.index.specs.declared.Decision.{Decision}
-use Rattle.index.specs.Index.{slotCount, slotStored, slotInserted, Right, indexedRefusal, afterIndexed}
+use Rattle.index.specs.Index.{slotCount, slotStored, slotInserted, firstEmptySlot, seeks, slotsAfter, Right, indexedRefusal, afterIndexed}
 use Rattle.index.specs.Promise.{PutIndexed}
 use Rattle.index.specs.steps.Checks.{newRefusal}
 use Rattle.index.specs.steps.Part.{Closable, PartIndex, partBuckets, refusalBy}
@@ -43,17 +43,28 @@ module _ {s : State} {words : List ℕ} {e : Entry} {h : ℕ} {d : Decision} (by
       }
 
   module _ (z : d .refusal ≡ 0) (word : e .id < 2 ^ 32) {t : State} {words′ : List ℕ}
-      (appends : t ≡ appended s e) (ew : words′ ≡ slotStored words (d .slot) h (s .writer .end)) where
+      (appends : t ≡ appended s e)
+      (ew : words′ ≡ cond (ltb (d .slot) (slotCount words)) (slotStored words (d .slot) h (s .writer .end)) words) where
     bounds : InBounds s words e h (d .slot)
     bounds = decided .bounds z
 
-    inserts : words′ ≡ slotInserted words (hashOf (e .name)) (s .writer .end)
-    inserts = ew ∙ ap₂ (λ (i x : ℕ). slotStored words i x (s .writer .end)) (bounds .first) (bounds .stores .hash)
+    inserts : words′ ≡ slotsAfter s words e
+    inserts = by-choice (seeks s) refl
+      where
+        by-choice : (b : Bool) → seeks s ≡ b → words′ ≡ cond b (slotInserted words (hashOf (e .name)) (s .writer .end)) words
+        by-choice true off =
+            ew
+            ∙ ap (λ (b : Bool). cond b (slotStored words (d .slot) h (s .writer .end)) words) (lt-ltb (d .slot) (slotCount words) (bounds .inside off))
+            ∙ ap₂ (λ (i x : ℕ). slotStored words i x (s .writer .end)) (bounds .first off) (bounds .stores .hash)
+        by-choice false on =
+            ew ∙ ap (λ (b : Bool). cond b (slotStored words (d .slot) h (s .writer .end)) words)
+            (le-ltb (d .slot) (slotCount words) (omega (arith, bounds .none on)))
 
     stays : (from : ℕ) → Closable s → PartIndex from s words → from ≤ tableOf (hashOf (e .name)) → Closable t × PartIndex from t words′
     stays from closable part own =
         let none = none-refused (length (partBuckets from (recorded s))) s words e (sym z ∙ rule from closable part own) in
-        let inside = subst (λ (k : ℕ). k < slotCount words) (bounds .first) (bounds .inside) in (
+        let inside : seeks s ≡ true → firstEmptySlot words (hashOf (e .name)) < slotCount words =
+        λ off. subst (λ (k : ℕ). k < slotCount words) (bounds .first off) (bounds .inside off) in (
           subst Closable (sym appends) (closable-after bytes closable e word (none .0)),
           subst (λ (u : State). PartIndex from u words′) (sym appends)
               (subst (PartIndex from (appended s e)) (sym inserts) (part-after-put bytes closable e word (none .0) part own (none .1) inside)),

@@ -16,7 +16,7 @@ use Rattle.writer.specs.State.{State, noneAbove, fits, finishedSize, tooLarge}
 use Rattle.writer.specs.Put.{writerAfterPut, writerAfterEntry, repeated, putRefusal}
 use Rattle.writer.proofs.Closes.{Accepted, accepted}
 use Rattle.writer.proofs.Puts.{long-name, count-small}
-use Rattle.index.specs.Index.{slotCount}
+use Rattle.index.specs.Index.{slotCount, seeks}
 use Rattle.index.specs.Refusals.{inBuffer, earlyRefusal, lateRefusal}
 use Rattle.index.specs.steps.Checks.{newRefusal}
 use Rattle.index.specs.steps.Part.{Closable, refusalBy}
@@ -152,30 +152,34 @@ module _ {s : State} (closable : Closable s) (e : Entry) where
 -- ---- by an index
 
 module _ (stored : ℕ) (s : State) (words : List ℕ) (e : Entry) where
-  pub by-refusal : (k : ℕ) → k ≡ putRefusal s e → (k ≡ 0 → ⊥) → k ≡ refusalBy stored s words e
-  by-refusal k p n =
-      p ∙ sym (ap (λ (b : Bool). cond (b && leb (slotCount words) stored) 24 (putRefusal s e)) (ne-eqb (putRefusal s e) 0 (λ z. n (p ∙ z))))
+  -- no 24 without need of a slot, and with a slot to spare
+  pub by-on : seeks s ≡ false → refusalBy stored s words e ≡ putRefusal s e
+  by-on on = ap (λ (b : Bool). cond (b && (eqb (putRefusal s e) 0 && leb (slotCount words) stored)) 24 (putRefusal s e)) on
 
-  module _ (none : 0 ≡ putRefusal s e) where
-    pub by-full : slotCount words ≤ stored → 24 ≡ refusalBy stored s words e
-    by-full l = rw (sym none, le-leb (slotCount words) stored l) refl
-
-    pub by-none : stored < slotCount words → 0 ≡ refusalBy stored s words e
-    by-none l = rw (sym none, lt-leb (slotCount words) stored l) refl
-
-  -- with a slot to spare
   pub by-spare : stored < slotCount words → refusalBy stored s words e ≡ putRefusal s e
   by-spare l =
-      ap (λ (b : Bool). cond (eqb (putRefusal s e) 0 && b) 24 (putRefusal s e)) (lt-leb (slotCount words) stored l)
-      ∙ ap (λ (b : Bool). cond b 24 (putRefusal s e)) (and-false (eqb (putRefusal s e) 0))
+      ap (λ (b : Bool). cond (seeks s && (eqb (putRefusal s e) 0 && b)) 24 (putRefusal s e)) (lt-leb (slotCount words) stored l)
+      ∙ ap (λ (b : Bool). cond (seeks s && b) 24 (putRefusal s e)) (and-false (eqb (putRefusal s e) 0))
+      ∙ ap (λ (b : Bool). cond b 24 (putRefusal s e)) (and-false (seeks s))
+
+  pub by-refusal : (k : ℕ) → k ≡ putRefusal s e → (k ≡ 0 → ⊥) → k ≡ refusalBy stored s words e
+  by-refusal k p n =
+      p
+      ∙ sym
+      (ap (λ (b : Bool). cond (seeks s && (b && leb (slotCount words) stored)) 24 (putRefusal s e)) (ne-eqb (putRefusal s e) 0 (λ z. n (p ∙ z)))
+      ∙ ap (λ (b : Bool). cond b 24 (putRefusal s e)) (and-false (seeks s)))
+
+  pub by-full : 0 ≡ putRefusal s e → seeks s ≡ true → slotCount words ≤ stored → 24 ≡ refusalBy stored s words e
+  by-full none off l = rw (off, sym none, le-leb (slotCount words) stored l) refl
 
   -- an accepted put by the index is an accepted put
-  pub none-refused : 0 ≡ refusalBy stored s words e → (putRefusal s e ≡ 0) × (stored < slotCount words)
-  none-refused p = by-tests (eqb (putRefusal s e) 0) refl (leb (slotCount words) stored) refl p
+  pub none-refused : 0 ≡ refusalBy stored s words e → (putRefusal s e ≡ 0) × (seeks s ≡ true → stored < slotCount words)
+  none-refused p = by-tests (seeks s) refl (eqb (putRefusal s e) 0) refl (leb (slotCount words) stored) refl p
     where
-      by-tests : (a : Bool) → eqb (putRefusal s e) 0 ≡ a → (b : Bool) → leb (slotCount words) stored ≡ b
-          → _≡_ {A = ℕ} 0 (cond (a && b) 24 (putRefusal s e))
-          → (putRefusal s e ≡ 0) × (stored < slotCount words)
-      by-tests true q true r z = absurd (omega arith)
-      by-tests true q false r z = (eqb-true (putRefusal s e) 0 q, leb-false (slotCount words) stored r)
-      by-tests false q b r z = absurd (eqb-false (putRefusal s e) 0 q (sym z))
+      by-tests : (q : Bool) → seeks s ≡ q → (a : Bool) → eqb (putRefusal s e) 0 ≡ a → (b : Bool) → leb (slotCount words) stored ≡ b
+          → _≡_ {A = ℕ} 0 (cond (q && (a && b)) 24 (putRefusal s e))
+          → (putRefusal s e ≡ 0) × (seeks s ≡ true → stored < slotCount words)
+      by-tests true off true x true y z = absurd (omega arith)
+      by-tests true off true x false y z = (eqb-true (putRefusal s e) 0 x, λ o. leb-false (slotCount words) stored y)
+      by-tests true off false x b y z = absurd (eqb-false (putRefusal s e) 0 x (sym z))
+      by-tests false on a x b y z = (sym z, λ off. absurd (false-not-true (sym on ∙ off)))

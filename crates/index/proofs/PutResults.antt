@@ -2,7 +2,7 @@
 use Prim.Native.Nat.{ℕ, _/_, _<_}
 use native.Mathlib.Omega.{arith}
 use mathlib.Core.Path.{_≡_, refl, sym, ap, ap₂, _∙_}
-use mathlib.Core.Bool.{Bool, true, false, cond, _&&_}
+use mathlib.Core.Bool.{Bool, true, false, cond, _&&_, and-false}
 use mathlib.Core.List.{List, [], _∷_, _++_}
 use mathlib.Core.Logic.{_⊎_, inl, inr}
 use borrow.Author.Tests.{eqb-true, eqb-false}
@@ -18,7 +18,7 @@ use Rattle.writer.specs.Put.{appended}
 use Rattle.lists.specs.Calls.{Call, put, close, putDue, sizeOf, dueTo}
 use Rattle.lists.proofs.ListWritten.{Written}
 use Rattle.lists.proofs.ListPuts.{put-due}
-use Rattle.index.specs.Index.{slotCount, firstEmptySlot, Right, indexedRefusal}
+use Rattle.index.specs.Index.{slotCount, firstEmptySlot, slotInserted, seeks, Right, indexedRefusal}
 use Rattle.index.specs.Promise.{PutIndexed}
 use Rattle.index.specs.theorems.ListsByIndex.{dueToIndexed}
 use Rattle.index.proofs.Insert.{length-stored}
@@ -68,30 +68,34 @@ module _ {m : ℕ} {mode : Mode} {repeats : Repeats} {n : ℕ} {es : List Entry}
   abbrev d : ℕ
   d = putDue mode repeats n es e
 
-  rule : ℕ → ℕ → ℕ → ℕ
-  rule q k l = cond (eqb q 0 && leb k l) 24 q
+  rule : Bool → ℕ → ℕ → ℕ → ℕ
+  rule b q k l = cond (b && (eqb q 0 && leb k l)) 24 q
 
   answer-is : r ≡ dueToIndexed m mode repeats n es (put e)
   unfolding indexedRefusal rule
   answer-is =
       p .answer right
-      ∙ ap (λ (q : ℕ). rule q (slotCount words) (s .writer .entries)) (put-due mode repeats n es s w e)
-      ∙ ap₂ (rule (putDue mode repeats n es e)) size (w .entries)
+      ∙ ap₂ (λ (b : Bool) (q : ℕ). rule b q (slotCount words) (s .writer .entries)) (ap refusesRepeats (w .repeats-is)) (put-due mode repeats n es s w e)
+      ∙ ap₂ (rule (refusesRepeats repeats) (putDue mode repeats n es e)) size (w .entries)
 
   pub result : PutResult m mode repeats n es s words e r u mid
-  result = by-due (eqb d 0) refl (leb m (length es)) refl
+  result = by-due (eqb d 0) refl (refusesRepeats repeats && leb m (length es)) refl
     where
-      by-due : (a : Bool) → eqb d 0 ≡ a → (b : Bool) → leb m (length es) ≡ b → PutResult m mode repeats n es s words e r u mid
+      opened : (a : Bool) → eqb d 0 ≡ a → dueToIndexed m mode repeats n es (put e) ≡ cond (refusesRepeats repeats && (a && leb m (length es))) 24 d
+      opened a x = ap (λ (b : Bool). cond (refusesRepeats repeats && (b && leb m (length es))) 24 d) x
+
+      by-due : (a : Bool) → eqb d 0 ≡ a → (b : Bool) → (refusesRepeats repeats && leb m (length es)) ≡ b → PutResult m mode repeats n es s words e r u mid
       by-due true x true y =
-          let e₂₄ : dueToIndexed m mode repeats n es (put e) ≡ 24 = rw (x, y) refl in
+          let e₂₄ : dueToIndexed m mode repeats n es (put e) ≡ 24 = opened true x ∙ ap (λ (b : Bool). cond b 24 d) y in
           let kept = p .refused (λ z. omega (arith, z, answer-is, e₂₄)) in
           inr (inl (record { is = answer-is ∙ e₂₄; due-is = e₂₄; state = kept .0; same = kept .1 }))
       by-due true x false y =
           let zero-is : putDue mode repeats n es e ≡ 0 = eqb-true d 0 x in
-          let e₀ : dueToIndexed m mode repeats n es (put e) ≡ 0 = rw (x, y) zero-is in
+          let e₀ : dueToIndexed m mode repeats n es (put e) ≡ 0 = opened true x ∙ ap (λ (b : Bool). cond b 24 d) y ∙ zero-is in
           inl (record { is = answer-is ∙ e₀; due-is = e₀; put-is = zero-is; state = p .accepted (answer-is ∙ e₀) .0 })
       by-due false x b y =
-          let e-same : dueToIndexed m mode repeats n es (put e) ≡ putDue mode repeats n es e = rw x refl in
+          let e-same : dueToIndexed m mode repeats n es (put e) ≡ putDue mode repeats n es e =
+          opened false x ∙ ap (λ (b : Bool). cond b 24 d) (and-false (refusesRepeats repeats)) in
           let some : putDue mode repeats n es e ≡ 0 → ⊥ = eqb-false d 0 x in
           let kept = p .refused (λ z. some (sym e-same ∙ sym answer-is ∙ z)) in
           inr (inr (record { is = answer-is ∙ e-same; due-is = e-same; some = some; state = kept .0; same = kept .1 }))
@@ -101,7 +105,9 @@ pub size-kept : {s : State} {words : List ℕ} {e : Entry} {r : ℕ} {u : State}
 size-kept {s} {words} {e} {r} {u} {mid} p = by-answer (eqb r 0) refl
   where
     by-answer : (a : Bool) → eqb r 0 ≡ a → slotCount mid ≡ slotCount words
-    by-answer true x =
-        ap slotCount (p .accepted (eqb-true r 0 x) .1)
-        ∙ ap (λ (l : ℕ). l / 2) (length-stored words (firstEmptySlot words (hashOf (e .name))) (hashOf (e .name)) (s .writer .end))
+    by-answer true x = ap slotCount (p .accepted (eqb-true r 0 x) .1) ∙ by-choice (seeks s)
+      where
+        by-choice : (b : Bool) → slotCount (cond b (slotInserted words (hashOf (e .name)) (s .writer .end)) words) ≡ slotCount words
+        by-choice true = ap (λ (l : ℕ). l / 2) (length-stored words (firstEmptySlot words (hashOf (e .name))) (hashOf (e .name)) (s .writer .end))
+        by-choice false = refl
     by-answer false x = ap slotCount (p .refused (eqb-false r 0 x) .1)

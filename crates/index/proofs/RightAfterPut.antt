@@ -16,7 +16,7 @@ use Rattle.image.specs.Tables.{Bucket, tableOf}
 use Rattle.image.specs.Image.{Entry}
 use Rattle.image.proofs.EntryArea.{AllBytes}
 use Rattle.writer.specs.declared.Repeats.{Repeats}
-use Rattle.writer.specs.State.{State}
+use Rattle.writer.specs.State.{State, refusesRepeats}
 use Rattle.writer.specs.Put.{putRefusal, appended, afterPut}
 use Rattle.writer.specs.Close.{recorded}
 use Rattle.lists.specs.Calls.{put, WordId}
@@ -25,19 +25,22 @@ use Rattle.lists.proofs.ListWritten.{Written}
 use Rattle.lists.proofs.ListPuts.{put-due, appended-written}
 use Rattle.lists.proofs.ListCloses.{close-accepted}
 use Rattle.lists.proofs.WrittenRecord.{written-recorded}
-use Rattle.index.specs.Index.{slotCount, firstEmptySlot, slotInserted, entryBuckets, FilledWith, Right}
+use Rattle.index.specs.Index.{slotCount, firstEmptySlot, slotInserted, entryBuckets, FilledWith, seeks, slotsAfter, Right}
 use Rattle.index.specs.steps.Part.{Closable, PartIndex, partBuckets}
 use Rattle.index.proofs.EntryNames.{length-buckets, length-part, part-whole, part-own, part-other}
 use Rattle.index.proofs.Insert.{filled-stored, length-stored}
 
-pub right-written : {s t : State} {words : List ℕ} {mode : Mode} {repeats : Repeats} {n : ℕ} {es : List Entry} → Right s words
-    → recorded s ≡ es → s .writer .entries ≡ length es → Written mode repeats n es t → Right t words
-right-written {t} {words} {mode} {repeats} {n} {es} right same number w =
+-- the same entries with the same choice of repeats
+pub right-written : {s t : State} {words : List ℕ} {mode : Mode} {repeats : Repeats} {n k : ℕ} {es : List Entry} → Right s words
+    → Written mode repeats k es s → Written mode repeats n es t → Right t words
+right-written {s} {t} {words} {mode} {repeats} {n} {k} {es} right v w =
+    let choice : seeks t ≡ seeks s = ap refusesRepeats (w .repeats-is ∙ sym (v .repeats-is)) in
+    let same = written-recorded mode repeats k es s v ∙ sym (written-recorded mode repeats n es t w) in
     record {
       closes = close-accepted mode repeats n es t w;
       tables = w .tables;
-      capacity = omega (arith, right .capacity, number, w .entries);
-      slots = subst (λ (fs : List Entry). FilledWith words (entryBuckets fs)) (same ∙ sym (written-recorded mode repeats n es t w)) (right .slots);
+      capacity = λ off. omega (arith, right .capacity (sym choice ∙ off), v .entries, w .entries);
+      slots = λ off. subst (λ (fs : List Entry). FilledWith words (entryBuckets fs)) same (right .slots (sym choice ∙ off));
     }
 
 -- ---- a right index is one of all tables
@@ -56,8 +59,8 @@ module _ {s : State} {words : List ℕ} (bytes : AllBytes (s .buffer)) where
   pub right-part : Right s words → PartIndex 0 s words
   right-part right =
       record {
-        capacity = omega (arith, right .capacity, stored-all s bytes (right-closable right));
-        slots = subst (FilledWith words) (sym (part-whole (recorded s))) (right .slots);
+        capacity = λ off. omega (arith, right .capacity off, stored-all s bytes (right-closable right));
+        slots = λ off. subst (FilledWith words) (sym (part-whole (recorded s))) (right .slots off);
       }
 
   pub part-right : Closable s → PartIndex 0 s words → Right s words
@@ -65,8 +68,8 @@ module _ {s : State} {words : List ℕ} (bytes : AllBytes (s .buffer)) where
       record {
         closes = closable .closes;
         tables = closable .tables;
-        capacity = omega (arith, part .capacity, stored-all s bytes closable);
-        slots = subst (FilledWith words) (part-whole (recorded s)) (part .slots);
+        capacity = λ off. omega (arith, part .capacity off, stored-all s bytes closable);
+        slots = λ off. subst (FilledWith words) (part-whole (recorded s)) (part .slots off);
       }
 
 -- ---- after an accepted put
@@ -93,34 +96,59 @@ module _ {s : State} (bytes : AllBytes (s .buffer)) (closable : Closable s) (e :
   recorded-more : recorded (appended s e) ≡ recorded s ++ (e ∷ [])
   recorded-more = written-recorded mode repeats n (recorded s ++ (e ∷ [])) (appended s e) now
 
+  same-choice : seeks (appended s e) ≡ seeks s
+  same-choice = ap refusesRepeats (now .repeats-is)
+
   pub closable-after : Closable (appended s e)
   closable-after = record { closes = close-accepted mode repeats n (recorded s ++ (e ∷ [])) (appended s e) now; tables = now .tables }
 
   module _ {words : List ℕ} {from : ℕ} (part : PartIndex from s words) where
-    -- its slot is inserted
-    pub part-after-put : from ≤ tableOf (hashOf (e .name)) → length (partBuckets from (recorded s)) < slotCount words
-        → firstEmptySlot words (hashOf (e .name)) < slotCount words
-        → PartIndex from (appended s e) (slotInserted words (hashOf (e .name)) (s .writer .end))
+    -- its slot is inserted, where names are sought
+    pub part-after-put : from ≤ tableOf (hashOf (e .name)) → (seeks s ≡ true → length (partBuckets from (recorded s)) < slotCount words)
+        → (seeks s ≡ true → firstEmptySlot words (hashOf (e .name)) < slotCount words)
+        → PartIndex from (appended s e) (slotsAfter s words e)
     part-after-put own spare inside =
-        let h = hashOf (e .name) in
-        let k = firstEmptySlot words h in
-        let b : Bucket = record { hash = h; at = s .writer .end } in
-        let more : partBuckets from (recorded (appended s e)) ≡ partBuckets from (recorded s) ++ (b ∷ []) =
-        ap (partBuckets from) recorded-more
-        ∙ part-own from (recorded s) e own
-        ∙ ap (λ (o : ℕ). partBuckets from (recorded s) ++ (record { hash = h; at = o } ∷ [])) (sym (ends s bytes (closable .closes))) in
-        let one = ap length more ∙ length-append (partBuckets from (recorded s)) (b ∷ []) in
         record {
-          capacity = omega (arith, one, spare, ap (λ (l : ℕ). l / 2) (length-stored words k h (s .writer .end)));
-          slots = subst (FilledWith (slotInserted words h (s .writer .end))) (sym more) (filled-stored words (part .slots) b k inside refl);
+          capacity = λ off. subst (λ (l : List ℕ). length (partBuckets from (recorded (appended s e))) ≤ slotCount l) (inserted off)
+              (omega (arith, one, spare (was off), ap (λ (l : ℕ). l / 2) (length-stored words k h (s .writer .end))));
+          slots = λ off. subst (λ (l : List ℕ). FilledWith l (partBuckets from (recorded (appended s e)))) (inserted off)
+              (subst (FilledWith (slotInserted words h (s .writer .end))) (sym more) (filled-stored words (part .slots (was off)) b k (inside (was off)) refl));
         }
+      where
+        h : ℕ
+        h = hashOf (e .name)
+
+        k : ℕ
+        k = firstEmptySlot words (hashOf (e .name))
+
+        b : Bucket
+        b = record { hash = hashOf (e .name); at = s .writer .end }
+
+        was : seeks (appended s e) ≡ true → seeks s ≡ true
+        was off = sym same-choice ∙ off
+
+        inserted : seeks (appended s e) ≡ true → slotInserted words (hashOf (e .name)) (s .writer .end) ≡ slotsAfter s words e
+        inserted off = sym (ap (λ (c : Bool). cond c (slotInserted words (hashOf (e .name)) (s .writer .end)) words) (was off))
+
+        more : partBuckets from (recorded (appended s e))
+            ≡ partBuckets from (recorded s) ++ (record { hash = hashOf (e .name); at = s .writer .end } ∷ [])
+        more =
+            ap (partBuckets from) recorded-more
+            ∙ part-own from (recorded s) e own
+            ∙ ap (λ (o : ℕ). partBuckets from (recorded s) ++ (record { hash = hashOf (e .name); at = o } ∷ [])) (sym (ends s bytes (closable .closes)))
+
+        one : length (partBuckets from (recorded (appended s e))) ≡ length (partBuckets from (recorded s)) + 1
+        one = ap length more ∙ length-append (partBuckets from (recorded s)) (record { hash = hashOf (e .name); at = s .writer .end } ∷ [])
 
     -- an entry of another table needs none
     pub part-after-new : tableOf (hashOf (e .name)) < from → PartIndex from (appended s e) words
     part-after-new other =
         let same : partBuckets from (recorded (appended s e)) ≡ partBuckets from (recorded s) =
         ap (partBuckets from) recorded-more ∙ part-other from (recorded s) e other in
-        record { capacity = omega (arith, ap length same, part .capacity); slots = subst (FilledWith words) (sym same) (part .slots) }
+        record {
+          capacity = λ off. omega (arith, ap length same, part .capacity (sym same-choice ∙ off));
+          slots = λ off. subst (FilledWith words) (sym same) (part .slots (sym same-choice ∙ off));
+        }
 
 -- ---- after a put, refused or accepted
 

@@ -8,9 +8,11 @@ use Rattle.image.specs.declared.Mode.{Mode}
 use Rattle.image.specs.Tables.{empty, insertAll, filled}
 use Rattle.image.specs.Image.{Entry, headSize, placed}
 use Rattle.image.proofs.EntryArea.{AllBytes}
+use Rattle.image.proofs.Bools.{false-not-true}
 use Rattle.image.proofs.Buckets.{getD-empties}
 use Rattle.writer.specs.declared.CQDBWriter.{CQDBWriter}
 use Rattle.writer.specs.declared.Repeats.{Repeats}
+use Rattle.writer.specs.declared.Repeats.the-variants.{On}
 use Rattle.writer.specs.State.{State, stateWith, fresh}
 use Rattle.writer.specs.Close.{recorded, afterClose}
 use Rattle.writer.proofs.Longer.{longer-accepted}
@@ -42,13 +44,25 @@ right-fresh mode repeats buffer words room clear =
     record {
       closes = close-accepted mode repeats (length buffer) [] (fresh mode repeats buffer) w;
       tables = w .tables;
-      capacity = omega (arith, w .entries);
-      slots =
+      capacity = λ off. omega (arith, w .entries);
+      slots = λ off.
           record {
             each =
                 λ k h. same-slot (clear (2 * k)) (clear (2 * k + 1)) ∙ sym (getD-empties (slotCount words) k)
                 ∙ ap (λ (es : List Entry). getD (filled (slotCount words) (entryBuckets es)) k empty) (sym none);
           };
+    }
+
+-- with repeats on any words are
+right-any : (mode : Mode) (buffer words : List ℕ) → headSize ≤ length buffer → Right (fresh mode On buffer) words
+unfolding fresh
+right-any mode buffer words room =
+    let w = fresh-written mode On buffer room in
+    record {
+      closes = close-accepted mode On (length buffer) [] (fresh mode On buffer) w;
+      tables = w .tables;
+      capacity = λ off. absurd (false-not-true off);
+      slots = λ off. absurd (false-not-true off);
     }
 
 -- and an index of some tables
@@ -58,11 +72,11 @@ part-fresh from mode repeats buffer words room clear =
     let right = right-fresh mode repeats buffer words room clear in
     let none = fresh-holds-none mode repeats buffer room in
     record {
-      capacity = omega (arith, length-part from (recorded (fresh mode repeats buffer)), ap length none);
-      slots =
+      capacity = λ off. omega (arith, length-part from (recorded (fresh mode repeats buffer)), ap length none);
+      slots = λ off.
           subst (FilledWith words)
           (ap entryBuckets none ∙ sym (part-none from) ∙ ap (partBuckets from) (sym none))
-          (right .slots);
+          (right .slots off);
     }
 
 -- where the entries stand in a longer buffer
@@ -70,7 +84,7 @@ pub right-moved : {s : State} {words : List ℕ} {mode : Mode} {repeats : Repeat
     → Written mode repeats n es s → (longer : List ℕ) → Longer longer s → Right (movedTo longer s) words
 right-moved {s} {words} {mode} {repeats} {n} {es} right w longer l =
     subst (λ (x : CQDBWriter). Right (stateWith x (s .counts) longer) words) (longer-accepted (s .writer) (length longer) (l .long) .1)
-    (right-written right (written-recorded mode repeats n es s w) (w .entries) (written-there mode repeats n es s w longer l))
+    (right-written right w (written-there mode repeats n es s w longer l))
 
 module _ (s : State) (words : List ℕ) (bytes : AllBytes (s .buffer)) (right : Right s words) where
   was : Written (s .writer .mode) (s .writer .repeats) (s .writer .length) (recorded s) s
@@ -78,7 +92,7 @@ module _ (s : State) (words : List ℕ) (bytes : AllBytes (s .buffer)) (right : 
 
   right-closed : Right (afterClose s) words
   right-closed =
-      right-written right refl (was .entries) (close-written (s .writer .mode) (s .writer .repeats) (s .writer .length) (recorded s) s was)
+      right-written right was (close-written (s .writer .mode) (s .writer .repeats) (s .writer .length) (recorded s) s was)
 
   right-longer : (longer : List ℕ) → Longer longer s → Right (movedTo longer s) words
   right-longer longer l = right-moved right was longer l
@@ -87,6 +101,7 @@ pub kept-right : KeptRight
 kept-right =
     record {
       fresh-right = right-fresh;
+      fresh-any = right-any;
       close-right = λ s words bytes right. right-closed s words bytes right;
       longer-right = λ s words longer bytes l right. right-longer s words bytes right longer l;
     }

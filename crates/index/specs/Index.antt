@@ -2,13 +2,14 @@
 -- earlier entries.
 use Prim.Native.Nat.{ℕ, _+_, _*_, _/_, _≤_, _<_}
 use mathlib.Core.Path.{_≡_}
-use mathlib.Core.Bool.{cond, _&&_}
+use mathlib.Core.Bool.{Bool, true, cond, _&&_}
 use mathlib.Core.List.{List, map}
 use lib.ListN.{length, getD, set}
 use lib.Dec.{eqb, ltb, leb}
+use Rattle.jhash.specs.NameHash.{hashOf}
 use Rattle.image.specs.Tables.{Bucket, start, probeSequence, firstEmpty, Filled}
 use Rattle.image.specs.Image.{Entry, headSize, placed, bucketOf}
-use Rattle.writer.specs.State.{State}
+use Rattle.writer.specs.State.{State, refusesRepeats}
 use Rattle.writer.specs.Put.{putRefusal, appended}
 use Rattle.writer.specs.Close.{recorded, closeRefusal}
 use Rattle.jhash.specs.Refusals as refused
@@ -43,18 +44,27 @@ entryBuckets es = map bucketOf (placed headSize es)
 abbrev pub FilledWith : List ℕ → List Bucket → Type 0
 FilledWith words bs = Filled (slotCount words) (slotAt words) bs
 
--- the index is right: close would accept record and buffer, there are 256 counts and at least as many slots as entries,
--- and the slots are filled with the entries in put order
+-- a put looks for its name with repeats off; with repeats on it needs no slots
+abbrev pub seeks : State → Bool
+seeks s = refusesRepeats (s .writer .repeats)
+
+-- the index is right: close would accept record and buffer, and there are 256 counts; with repeats off there are at
+-- least as many slots as entries, and the slots are filled with the entries in put order
 pub record Right (s : State) (words : List ℕ) : Type 0 where
   pub closes : closeRefusal s ≡ 0
   pub tables : length (s .counts) ≡ 256
-  pub capacity : s .writer .entries ≤ slotCount words
-  pub slots : FilledWith words (entryBuckets (recorded s))
+  pub capacity : seeks s ≡ true → s .writer .entries ≤ slotCount words
+  pub slots : seeks s ≡ true → FilledWith words (entryBuckets (recorded s))
 
--- a put by the index: put's refusal; where put would accept, 24 when every slot is taken
+-- a put by the index: put's refusal; where put would accept, with repeats off, 24 when every slot is taken
 unfoldable pub indexedRefusal : State → List ℕ → Entry → ℕ
 indexedRefusal s words e =
-    cond (eqb (putRefusal s e) 0 && leb (slotCount words) (s .writer .entries)) refused.indexFull (putRefusal s e)
+    cond (seeks s && (eqb (putRefusal s e) 0 && leb (slotCount words) (s .writer .entries))) refused.indexFull
+    (putRefusal s e)
+
+-- the slots after an accepted put: with repeats off one is inserted
+abbrev pub slotsAfter : State → List ℕ → Entry → List ℕ
+slotsAfter s words e = cond (seeks s) (slotInserted words (hashOf (e .name)) (s .writer .end)) words
 
 unfoldable pub afterIndexed : State → List ℕ → Entry → State
 afterIndexed s words e = cond (eqb (indexedRefusal s words e) 0) (appended s e) s

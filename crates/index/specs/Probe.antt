@@ -16,11 +16,7 @@ isHit (hit found) = true
 abbrev pub hasNameAt : List ℕ → List ℕ → ℕ → Bool
 hasNameAt bytes name at = isHit (probeEntry bytes name at)
 
--- is it a duplicate, where repeats are refused?
-abbrev pub duplicateAt : Bool → List ℕ → List ℕ → ℕ → Bool
-duplicateAt refuses bytes name at = refuses && hasNameAt bytes name at
-
--- a probe of m slots for a hash, along some of them: m + 1 if v says that an entry of the hash is a duplicate,
+-- a probe of m slots for a hash, along some of them: m + 1 if v says that an entry of the hash has the name,
 -- otherwise the first empty slot, m if there is none
 unfoldable pub probeAlong : ℕ → (ℕ → Bucket) → ℕ → (ℕ → Bool) → List ℕ → ℕ
 probeAlong m b h v [] = m

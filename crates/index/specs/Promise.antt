@@ -3,22 +3,20 @@ use Prim.Native.Nat.{ℕ, _*_, _≤_}
 use mathlib.Core.Path.{_≡_}
 use mathlib.Core.List.{List}
 use lib.ListN.{length, getD}
-use Rattle.jhash.specs.NameHash.{hashOf}
 use Rattle.image.specs.Image.{Entry}
 use Rattle.writer.specs.State.{State}
 use Rattle.writer.specs.Put.{appended}
-use Rattle.index.specs.Index.{slotCount, slotInserted, Right, indexedRefusal, afterIndexed, indexRefusal}
+use Rattle.index.specs.Index.{slotCount, slotsAfter, Right, indexedRefusal, afterIndexed, indexRefusal}
 use Rattle.index.specs.Refusals.{refusalBySlots}
 
 -- a put by the index
 pub record PutIndexed (s : State) (words : List ℕ) (e : Entry) (refusal : ℕ) (t : State)
     (words′ : List ℕ) : Type 0 where
   -- whatever is lent, the refusal is that of the checks in their order; it changes nothing, and an accepted put appends
-  -- the entry and inserts its slot
+  -- the entry and with repeats off inserts its slot
   pub number : refusal ≡ refusalBySlots s words e
   pub refused : (refusal ≡ 0 → ⊥) → (t ≡ s) × (words′ ≡ words)
-  pub accepted : refusal ≡ 0
-      → (t ≡ appended s e) × (words′ ≡ slotInserted words (hashOf (e .name)) (s .writer .end))
+  pub accepted : refusal ≡ 0 → (t ≡ appended s e) × (words′ ≡ slotsAfter s words e)
   -- by a right index, refusal and state are the rule's, and the index is right again
   pub answer : Right s words → refusal ≡ indexedRefusal s words e
   pub leaves : Right s words → t ≡ afterIndexed s words e

@@ -10,10 +10,10 @@ use Rattle.image.specs.Tables.{tableOf}
 use Rattle.image.specs.Image.{Entry, headSize}
 use Rattle.image.specs.Zero.{hasZero}
 use Rattle.writer.specs.declared.CQDBWriter.{CQDBWriter}
-use Rattle.writer.specs.State.{State, refusesRepeats, finishedSize, tooLarge}
+use Rattle.writer.specs.State.{State, finishedSize, tooLarge}
 use Rattle.writer.specs.Put.{writerAfterPut}
-use Rattle.index.specs.Index.{slotCount}
-use Rattle.index.specs.Probe.{duplicateAt, probeSlots}
+use Rattle.index.specs.Index.{slotCount, seeks}
+use Rattle.index.specs.Probe.{hasNameAt, probeSlots}
 use Rattle.jhash.specs.Refusals as refused
 
 -- has the record this buffer's length, and an end from 2,072 to that length? Counts are not compared
@@ -42,11 +42,10 @@ earlyOf s e = earlyRefusal (s .writer) (s .buffer) (e .name)
 abbrev pub lateOf : State → Entry → ℕ
 lateOf s e = lateRefusal (s .writer) (s .counts) (length (e .name)) (e .id) (hashOf (e .name))
 
--- the search: with repeats off, the slots of the name's hash are compared with the entries before the record's end
+-- the search: the name is compared with those entries before the record's end that slots of its hash lead to
 abbrev pub probedFor : State → List ℕ → Entry → ℕ
 probedFor s words e =
-    probeSlots words (hashOf (e .name))
-    (duplicateAt (refusesRepeats (s .writer .repeats)) (take (s .writer .end) (s .buffer)) (e .name))
+    probeSlots words (hashOf (e .name)) (hasNameAt (take (s .writer .end) (s .buffer)) (e .name))
 
 -- by the result k of the search: 16 when it met an entry of this name; then the late refusals; then 24 when it met no
 -- empty slot, and 0 otherwise
@@ -55,6 +54,10 @@ refusalAfter s words e k =
     cond (ltb (slotCount words) k) refused.repeated
     (cond (eqb (lateOf s e) 0) (cond (eqb k (slotCount words)) refused.indexFull 0) (lateOf s e))
 
--- the early refusals, then those by the search
+-- the early refusals; then, with repeats off, those by the search, and with repeats on, where no name is sought, the
+-- late ones
 unfoldable pub refusalBySlots : State → List ℕ → Entry → ℕ
-refusalBySlots s words e = cond (eqb (earlyOf s e) 0) (refusalAfter s words e (probedFor s words e)) (earlyOf s e)
+refusalBySlots s words e =
+    cond (eqb (earlyOf s e) 0)
+    (cond (seeks s) (refusalAfter s words e (probedFor s words e)) (lateOf s e))
+    (earlyOf s e)

@@ -1,11 +1,11 @@
 // The index of the names that a buffer holds, in lent words, and a put that probes it: with repeats off it compares the
 // name with the entries of an equal hash alone, where `writer::put` walks all earlier ones.
 ghost use mathlib.Core.Path.{_≡_};
-ghost use Rattle.writer.specs.State.{stateWith};
+ghost use Rattle.writer.specs.State.{stateWith, refusesRepeats};
 ghost use Rattle.writer.specs.Put.{entryOf};
 ghost use Rattle.index.specs.Promise.{PutIndexed, Indexed};
 ghost use Rattle.index.specs.steps.Checks.{FactsOf};
-ghost use Rattle.index.specs.steps.Decided.{Decided, PutHashed, PutNew};
+ghost use Rattle.index.specs.steps.Decided.{WithoutSlot, Decided, PutHashed, PutNew};
 ghost use Rattle.index.specs.steps.Fill.{FillPre, SlotsFilled};
 use checks::append;
 use checks::early_refusal;
@@ -18,10 +18,12 @@ use image::scratch::clear_words;
 use jhash::refusals::INDEX_FULL;
 use jhash::refusals::REPEATED;
 use slots::first_empty;
-use slots::probe;
+use slots::search;
+use slots::store_if_slot;
 use slots::store_slot;
 use writer::CQDBWriter;
 use writer::RecordAnswer;
+use writer::Repeats;
 
 mod checks; // checks.rt: what a put checks beside the search, and what it stores
 mod slots; // slots.rt: slots probed and stored
@@ -33,7 +35,7 @@ pub struct NameFacts {
     pub clean: bool,
 }
 
-// The refusal of a put, 0 where it is accepted, and then the slot that it takes.
+// The refusal of a put, 0 where it is accepted, and then the slot that it takes, or the number of slots for none.
 struct Decision {
     refusal: u32,
     slot: usize,
@@ -44,6 +46,30 @@ fn refused(refusal: u32) -> Decision
     ensures { λ r. ⌜ r .refusal ≡ refusal ⌝ }
 {
     Decision { refusal, slot: 0 }
+}
+
+// Does a put look for its name? With repeats off.
+fn seeks(w: CQDBWriter) -> bool
+    ensures { λ r. ⌜ r ≡ refusesRepeats (w .repeats) ⌝ }
+{
+    let repeats = w.repeats;
+    match repeats {
+        Repeats::On => false,
+        Repeats::Off => true,
+    }
+}
+
+// A put without an empty slot among m: refused with 24, but accepted where no name is sought.
+fn without_slot(sought: bool, m: usize) -> Decision
+    ensures { λ r. ⌜ WithoutSlot sought m r ⌝ }
+{
+    if sought {
+        return refused(INDEX_FULL);
+    }
+    Decision {
+        refusal: 0,
+        slot: m,
+    }
 }
 
 // All checks of a put, with the bounds that its stores need: what is lent may be anything.
@@ -69,8 +95,8 @@ fn decide(
     }
     let m = slots.len() / 2;
     let end = w.end as usize;
-    let repeats = w.repeats;
-    let k = probe(repeats, &buf[..end], slots, h, name);
+    let sought = seeks(w);
+    let k = search(sought, &buf[..end], slots, h, name);
     if m < k {
         return refused(REPEATED);
     }
@@ -79,7 +105,7 @@ fn decide(
         return refused(late);
     }
     if k == m {
-        return refused(INDEX_FULL);
+        return without_slot(sought, m);
     }
     Decision {
         refusal: 0,
@@ -87,7 +113,8 @@ fn decide(
     }
 }
 
-// Appends an entry and stores its slot, or is refused and changes nothing. By a right index it does what put does.
+// Appends an entry and with repeats off stores its slot, or is refused and changes nothing. By a right index it does
+// what put does.
 pub fn put_hashed(
     w: CQDBWriter,
     counts: &mut [u32; 256],
@@ -110,7 +137,7 @@ pub fn put_hashed(
     if refusal != 0 {
         return RecordAnswer { refusal, writer: w };
     }
-    store_slot(&mut *slots, d.slot, h, w.end as u32);
+    store_if_slot(&mut *slots, d.slot, h, w.end as u32);
     let writer = append(w, &mut *counts, &mut *buf, name, id, h);
     RecordAnswer { refusal: 0, writer }
 }

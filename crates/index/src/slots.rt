@@ -1,27 +1,23 @@
 // Slots probed and stored: two words each, a hash and the offset of an entry. An offset of 0 marks an empty slot.
 ghost use mathlib.Core.Path.{_≡_};
-ghost use mathlib.Core.Bool.{false};
+ghost use mathlib.Core.Bool.{false, cond};
+ghost use lib.Dec.{ltb};
 ghost use Prim.Native.Nat.{ℕ, _<_};
-ghost use Rattle.writer.specs.State.{refusesRepeats};
 ghost use Rattle.index.specs.Index.{slotCount, slotAt, slotStored};
-ghost use Rattle.index.specs.Probe.{duplicateAt, probeSlots};
+ghost use Rattle.index.specs.Probe.{hasNameAt, probeSlots};
 use image::probe::next;
 use image::probe::start;
 use reader::Probe;
 use reader::lookup::probe_entry;
-use writer::Repeats;
 
-// Would a put of the name be refused as a duplicate of the entry at an offset? Never with repeats on.
-fn is_duplicate(repeats: Repeats, bytes: &[u8], name: &[u8], at: u32) -> bool
-    ensures { λ r. ⌜ r ≡ duplicateAt (refusesRepeats repeats) (now (bytes .entry)) (now (name .entry)) at ⌝ }
+// Has the entry at an offset this name?
+fn has_name(bytes: &[u8], name: &[u8], at: u32) -> bool
+    ensures { λ r. ⌜ r ≡ hasNameAt (now (bytes .entry)) (now (name .entry)) at ⌝ }
 {
-    match repeats {
-        Repeats::On => false,
-        Repeats::Off => match probe_entry(bytes, name, at) {
-            Probe::Pass => false,
-            Probe::Ends => false,
-            Probe::Hit(_) => true,
-        },
+    match probe_entry(bytes, name, at) {
+        Probe::Pass => false,
+        Probe::Ends => false,
+        Probe::Hit(_) => true,
     }
 }
 
@@ -41,13 +37,10 @@ fn offset_at(slots: &[u32], k: usize) -> u32
     slots[2 * k + 1]
 }
 
-// Probes the m slots for a name of hash h: m + 1 if an entry is a duplicate, otherwise the first empty slot, m if none
-// is empty.
-pub(super) fn probe(repeats: Repeats, bytes: &[u8], slots: &[u32], h: u32, name: &[u8]) -> usize
-    ensures { λ r. ⌜
-        r ≡ probeSlots (now (slots .entry)) h
-        (duplicateAt (refusesRepeats repeats) (now (bytes .entry)) (now (name .entry)))
-        ⌝ }
+// Probes the m slots for a name of hash h: m + 1 if an entry has it, otherwise the first empty slot, m if none is
+// empty.
+fn probe(bytes: &[u8], slots: &[u32], h: u32, name: &[u8]) -> usize
+    ensures { λ r. ⌜ r ≡ probeSlots (now (slots .entry)) h (hasNameAt (now (bytes .entry)) (now (name .entry))) ⌝ }
 {
     let m = slots.len() / 2;
     if m == 0 {
@@ -61,7 +54,7 @@ pub(super) fn probe(repeats: Repeats, bytes: &[u8], slots: &[u32], h: u32, name:
             return k;
         }
         if hash_at(slots, k) == h {
-            if is_duplicate(repeats, bytes, name, at) {
+            if has_name(bytes, name, at) {
                 return m + 1;
             }
         }
@@ -71,7 +64,20 @@ pub(super) fn probe(repeats: Repeats, bytes: &[u8], slots: &[u32], h: u32, name:
     m
 }
 
-// The same without a name, for making the index. A function of its own, since `probe` with two callers is not
+// The same where the name is sought; otherwise m, and no slot is read.
+pub(super) fn search(sought: bool, bytes: &[u8], slots: &[u32], h: u32, name: &[u8]) -> usize
+    ensures { λ r. ⌜
+        r ≡ cond sought (probeSlots (now (slots .entry)) h (hasNameAt (now (bytes .entry)) (now (name .entry))))
+        (slotCount (now (slots .entry)))
+        ⌝ }
+{
+    if !sought {
+        return slots.len() / 2;
+    }
+    probe(bytes, slots, h, name)
+}
+
+// The probe without a name, for making the index. A function of its own, since `probe` with two callers is not
 // inlined, which costs 4 % of a put.
 pub(super) fn first_empty(slots: &[u32], h: u32) -> usize
     ensures { λ r. ⌜ r ≡ probeSlots (now (slots .entry)) h (λ (a : ℕ). false) ⌝ }
@@ -90,6 +96,19 @@ pub(super) fn first_empty(slots: &[u32], h: u32) -> usize
         left -= 1;
     }
     m
+}
+
+// Stores hash and offset in slot k, if there is one.
+pub(super) fn store_if_slot(slots: &mut [u32], k: usize, h: u32, at: u32)
+    ensures { λ _. ⌜
+        now (slots .exit)
+        ≡ cond (ltb k (slotCount (now (slots .entry)))) (slotStored (now (slots .entry)) k h at) (now (slots .entry))
+        ⌝ }
+{
+    if slots.len() / 2 <= k {
+        return;
+    }
+    store_slot(&mut *slots, k, h, at);
 }
 
 // Stores hash and offset in a slot.

@@ -7,12 +7,11 @@ use mathlib.Core.Bool.{true, cond}
 use mathlib.Core.List.{List}
 use lib.ListN.{length, getD}
 use lib.Dec.{ltb}
-use Rattle.jhash.specs.NameHash.{hashOf}
 use Rattle.image.specs.Image.{Entry}
 use Rattle.writer.specs.Put.{appended}
 use Rattle.writer.specs.CRecord.{CState, knownIn, stateIn, cStateOf}
 use Rattle.index.specs.Refusals.{refusalBySlots}
-use Rattle.index.specs.Index.{slotCount, slotInserted, Right, indexedRefusal, afterIndexed, indexRefusal}
+use Rattle.index.specs.Index.{slotCount, slotsAfter, Right, indexedRefusal, afterIndexed, indexRefusal}
 use Rattle.jhash.specs.Refusals as refused
 
 -- two slots a name, two words a slot; where that exceeds 64 bits, the largest number of 64 bits
@@ -38,13 +37,13 @@ leftByPutIndexed h words e = cond (knownIn h) (cStateOf (afterIndexed (stateIn h
 pub record PutIndexedHeld (h : CState) (words : List ℕ) (e : Entry) (refusal : ℕ) (h′ : CState)
     (words′ : List ℕ) : Type 0 where
   -- whatever is lent, the refusal is that of the checks in their order; it changes nothing, and an accepted put appends
-  -- the entry and inserts its slot
+  -- the entry and with repeats off inserts its slot
   pub number : refusal ≡ putBySlotsNumber h words e
   pub refused : (refusal ≡ 0 → ⊥) → (h′ ≡ h) × (words′ ≡ words)
   pub accepted : refusal ≡ 0
       → (knownIn h ≡ true)
       × (h′ ≡ cStateOf (appended (stateIn h) e))
-      × (words′ ≡ slotInserted words (hashOf (e .name)) (h .writer .end))
+      × (words′ ≡ slotsAfter (stateIn h) words e)
   -- by a right index, the rule's number and what it leaves, and the index is right again
   pub answer : RightHeld h words → refusal ≡ putIndexedNumber h words e
   pub leaves : RightHeld h words → h′ ≡ leftByPutIndexed h words e

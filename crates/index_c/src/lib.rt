@@ -45,7 +45,8 @@ pub extern "C" fn cqdb_index_parts(
     index::index(writer_of(w), counts, buf, &mut *slots)
 }
 
-// Appends an entry, raises its count and stores its slot; or refusal 2, 13, 16, 3 or 24, and nothing changes. A record
+// Appends an entry, raises its count and with repeats off stores its slot; or refusal 2, 13, 16, 3 or 24, and nothing
+// changes. With repeats on no slot is looked at, and none is needed. A record
 // by value, in and out, costs 6 ns a put, since its words are stored one by one and loaded four at a time.
 #[no_mangle]
 pub extern "C" fn cqdb_put_indexed_parts(

@@ -1,20 +1,22 @@
 -- `index::decide` meets its contract. Assumes nothing.
 use Prim.Native.Nat.{ℕ, _<_, _≤_}
 use native.Mathlib.Omega.{arith}
-use mathlib.Core.Path.{_≡_, sym, ap, _∙_}
+use mathlib.Core.Path.{_≡_, refl, sym, ap, ap₂, subst, _∙_}
+use mathlib.Core.Bool.{Bool, cond}
 use mathlib.Core.List.{List}
 use lib.ListN.{length, take, length-take}
 use Rattle.jhash.specs.NameHash.{hashOf}
 use Rattle.image.specs.Image.{Entry}
-use Rattle.writer.specs.State.{State, stateWith, refusesRepeats}
+use Rattle.writer.specs.State.{State, stateWith}
 use Rattle.writer.specs.Put.{entryOf}
 use Rattle.index.specs.declared.Decision.{Decision}
-use Rattle.index.specs.Index.{slotCount}
-use Rattle.index.specs.Probe.{duplicateAt, probeSlots}
+use Rattle.index.specs.Index.{slotCount, seeks}
+use Rattle.index.specs.Probe.{hasNameAt, probeSlots}
 use Rattle.index.specs.Refusals.{lateRefusal, earlyOf, lateOf, probedFor, refusalBySlots}
-use Rattle.index.specs.steps.Decided.{Decided}
+use Rattle.index.specs.steps.Checks.{AppendPre}
+use Rattle.index.specs.steps.Decided.{WithoutSlot, Decided}
 use Rattle.index.proofs.PutRefusals.{EarlyPassed, early-passed, late-passed}
-use Rattle.index.proofs.PutChecks.{append-pre, slots-early, slots-duplicate, slots-late, slots-full, slots-none, first-slot}
+use Rattle.index.proofs.PutChecks.{append-pre, slots-early, search-duplicate, search-late, search-slot, search-end}
 use borrow.Author.Needs.{needs}
 use Rattle.index.proofs.decide.Statement.{statement}
 use Rattle.index.proofs.decide.Tie as tie
@@ -50,37 +52,39 @@ returns c =
     let some : earlyOf (S s) (E s) ≡ 0 → ⊥ = λ z. c .before .if1 .taken (is ∙ z) in
     refused-with (c .refused .result) (earlyOf (S s) (E s)) (c .refused .ensures ∙ is) some (slots-early (S s) (s .args .slots .now) (E s) some)
 
-slice-aggregate-probe : tie.Need-slice-aggregate-probe
-slice-aggregate-probe c =
-    let p = passed (c .before) in
-    let s = start (c .before .before) in
+slice-aggregate-search : tie.Need-slice-aggregate-search
+slice-aggregate-search c =
+    let p = passed (c .before .before) in
+    let s = start (c .before .before .before) in
     omega (arith, length-take (S s .writer .end) (S s .buffer), p .same-length, p .high)
 
 -- ---- the probe and the checks behind it
 
-abbrev early : tie.After-probe → tie.Else1
-early c = c .before .before
+abbrev early : tie.After-search → tie.Else1
+early c = c .before .before .before
 
-abbrev begun : tie.After-probe → tie.Start
+abbrev begun : tie.After-search → tie.Start
 begun c = start (early c .before)
 
 -- h is the hash of the name
-hashed : (c : tie.After-probe) → begun c .args .facts .hash ≡ hashOf (E (begun c) .name)
+hashed : (c : tie.After-search) → begun c .args .facts .hash ≡ hashOf (E (begun c) .name)
 hashed c = begun c .pre .hash (passed (early c) .short)
 
 -- what the search gives
-probed : (c : tie.After-probe) → let s = begun c in c .probe .result ≡ probedFor (S s) (s .args .slots .now) (E s)
-probed c =
+searched : (c : tie.After-search) → let s = begun c in c .search .result ≡ cond (seeks (S s)) (probedFor (S s) (s .args .slots .now) (E s)) (slotCount (s .args .slots .now))
+searched c =
     let s = begun c in
-    let duplicate = duplicateAt (refusesRepeats (S s .writer .repeats)) (take (S s .writer .end) (S s .buffer)) (E s .name) in
-    c .probe .ensures ∙ ap (λ (h : ℕ). probeSlots (s .args .slots .now) h duplicate) (hashed c)
+    let words = s .args .slots .now in
+    c .search .ensures
+    ∙ ap₂ (λ (b : Bool) (h : ℕ). cond b (probeSlots words h (hasNameAt (take (S s .writer .end) (S s .buffer)) (E s .name))) (slotCount words))
+    (c .before .before .seeks .ensures) (hashed c)
 
 returns-2 : tie.Need-returns-2
 returns-2 c =
     let p = c .before .before in
     let s = begun p in
     refused-with (c .refused2 .result) 16 (c .refused2 .ensures) (λ z. omega arith)
-    (slots-duplicate (S s) (s .args .slots .now) (E s) (none-early (early p)) (omega (arith, c .before .if2 .taken, probed p)))
+    (search-duplicate (S s) (s .args .slots .now) (E s) (none-early (early p)) (searched p) (c .before .if2 .taken))
 
 late-refusal-requires : tie.Need-late-refusal-requires
 late-refusal-requires c κs =
@@ -88,8 +92,8 @@ late-refusal-requires c κs =
     record { low = omega (arith, p .high, p .same-length, begun (c .before) .good); short = p .short }
 
 -- the name is no duplicate
-new : (c : tie.Else2) → let s = begun (c .before) in probedFor (S s) (s .args .slots .now) (E s) ≤ slotCount (s .args .slots .now)
-new c = omega (arith, c .if2 .left, probed (c .before))
+new : (c : tie.Else2) → c .before .search .result ≤ slotCount (begun (c .before) .args .slots .now)
+new c = omega (arith, c .if2 .left)
 
 -- the refusal after the search
 late-is : (c : tie.After-late-refusal) → let s = begun (c .before .before) in c .late-refusal .result ≡ lateOf (S s) (E s)
@@ -104,11 +108,20 @@ returns-3 c =
     let s = begun p in
     let some : lateOf (S s) (E s) ≡ 0 → ⊥ = λ z. c .before .if3 .taken (late-is l ∙ z) in
     refused-with (c .refused3 .result) (lateOf (S s) (E s)) (c .refused3 .ensures ∙ late-is l) some
-    (slots-late (S s) (s .args .slots .now) (E s) (none-early (early p)) (new (l .before)) some)
+    (search-late (S s) (s .args .slots .now) (E s) (none-early (early p)) (searched p) (new (l .before)) some)
 
 -- no late refusal is due
 none-late : (c : tie.Else3) → let s = begun (c .before .before .before) in lateOf (S s) (E s) ≡ 0
 none-late c = sym (late-is (c .before)) ∙ c .if3 .left
+
+-- so what is stored has room
+stores : (c : tie.Else3) → let s = begun (c .before .before .before) in AppendPre (S s) (E s) (s .args .facts .hash)
+stores c =
+    let l = c .before in
+    let p = l .before .before in
+    let s = begun p in
+    append-pre (passed (early p))
+    (late-passed (S s .writer) (S s .counts) (length (E s .name)) (E s .id) (s .args .facts .hash) (sym (l .late-refusal .ensures) ∙ c .if3 .left)) (hashed p)
 
 returns-4 : tie.Need-returns-4
 returns-4 c =
@@ -116,8 +129,8 @@ returns-4 c =
     let l = e .before in
     let p = l .before .before in
     let s = begun p in
-    refused-with (c .refused4 .result) 24 (c .refused4 .ensures) (λ z. omega arith)
-    (slots-full (S s) (s .args .slots .now) (E s) (none-early (early p)) (new (l .before)) (none-late e) (sym (probed p) ∙ c .before .if4 .taken))
+    search-end (S s) (s .args .slots .now) (E s) (none-early (early p)) (searched p) (new (l .before)) (none-late e) (stores e) (c .before .if4 .taken)
+    (subst (λ (b : Bool). WithoutSlot b (slotCount (s .args .slots .now)) (c .without-slot .result)) (p .before .before .seeks .ensures) (c .without-slot .ensures))
 
 returns-5 : tie.Need-returns-5
 returns-5 c =
@@ -125,16 +138,8 @@ returns-5 c =
     let l = e .before in
     let p = l .before .before in
     let s = begun p in
-    let below : probedFor (S s) (s .args .slots .now) (E s) < slotCount (s .args .slots .now) = omega (arith, new (l .before), c .if4 .left, probed p) in
-    let late = late-passed (S s .writer) (S s .counts) (length (E s .name)) (E s .id) (s .args .facts .hash) (sym (l .late-refusal .ensures) ∙ e .if3 .left) in
-    record {
-      number = slots-none (S s) (s .args .slots .now) (E s) (none-early (early p)) (new (l .before)) (none-late e) below;
-      bounds = λ z. record {
-        inside = omega (arith, below, probed p);
-        first = probed p ∙ first-slot (S s) (s .args .slots .now) (E s) below;
-        stores = append-pre (passed (early p)) late (hashed p);
-      };
-    }
+    search-slot (S s) (s .args .slots .now) (E s) (none-early (early p)) (searched p) (new (l .before)) (none-late e) (stores e)
+    (omega (arith, new (l .before), c .if4 .left)) refl refl
 
 pub decide-spec : {M : Type 1} → statement M
 decide-spec =
@@ -143,7 +148,8 @@ decide-spec =
     (λ c κs. search needs)
     (λ c κs. search needs)
     returns
-    slice-aggregate-probe
+    (λ c κs. search needs)
+    slice-aggregate-search
     (λ c κs. search needs)
     (λ c κs. search needs)
     returns-2

@@ -16,10 +16,10 @@ use Rattle.index.proofs.put_hashed.Tie as tie
 abbrev begun : tie.After-decide → tie.Start
 begun d = d .before .before .before .before .before .before .before
 
-abbrev decision : tie.After-store-slot → tie.After-decide
+abbrev decision : tie.After-store-if-slot → tie.After-decide
 decision q = q .before .before .before .before
 
-abbrev slotted : tie.After-append-arg2 → tie.After-store-slot
+abbrev slotted : tie.After-append-arg2 → tie.After-store-if-slot
 slotted c = c .before .before .before .before
 
 bytes : (d : tie.After-decide) → (i : ℕ) → getD (begun d .args .buf .now) i 0 < 256
@@ -34,14 +34,11 @@ bounds d z = d .decide .ensures .bounds z
 returns : tie.Need-returns
 returns c = put-refused (bytes (c .before)) (c .before .decide .ensures) (c .if1 .taken)
 
-cast-store-slot : tie.Need-cast-store-slot
-cast-store-slot c =
+cast-store-if-slot : tie.Need-cast-store-if-slot
+cast-store-if-slot c =
     let d = c .before .before .before in
     let a = begun d .args in
     record { fits = end-word (a .w) (length (a .name .now)) (a .id) (bounds d (c .before .before .if1 .left) .stores .size) }
-
-store-slot-requires : tie.Need-store-slot-requires
-store-slot-requires c κs = bounds (c .before .before .before) (c .before .before .if1 .left) .inside
 
 append-requires : tie.Need-append-requires
 append-requires c κs =
@@ -54,7 +51,7 @@ returns-2 c =
     let q = slotted (p .before) in
     let d = decision q in
     let word : begun d .args .id < 2 ^ 32 = omega (arith, begun d .good) in
-    put-accepted (bytes d) (d .decide .ensures) (q .before .before .before .if1 .left) word (p .append .ensures) (q .store-slot .ensures)
+    put-accepted (bytes d) (d .decide .ensures) (q .before .before .before .if1 .left) word (p .append .ensures) (q .store-if-slot .ensures)
 
 pub put-hashed-spec : {M : Type 1} → statement M
 put-hashed-spec =
@@ -64,8 +61,8 @@ put-hashed-spec =
     (λ c. search needs)
     (λ c. search needs)
     returns
-    cast-store-slot
-    store-slot-requires
+    cast-store-if-slot
+    (λ c κs. search needs)
     append-requires
     (λ c. search needs)
     (λ c. search needs)

@@ -1,7 +1,7 @@
 -- What the checks of a put decide, by an index and without one. No rule stands here: proofs/ joins it to the rules.
 use Prim.Native.Nat.{ℕ, _≤_, _<_}
 use mathlib.Core.Path.{_≡_}
-use mathlib.Core.Bool.{false}
+use mathlib.Core.Bool.{Bool, true, false}
 use mathlib.Core.List.{List}
 use lib.ListN.{length}
 use Rattle.jhash.specs.NameHash.{hashOf}
@@ -11,15 +11,22 @@ use Rattle.writer.specs.State.{State}
 use Rattle.writer.specs.Put.{putRefusal, repeated, appended, afterPut}
 use Rattle.writer.specs.Close.{recorded}
 use Rattle.index.specs.declared.Decision.{Decision}
-use Rattle.index.specs.Index.{slotCount, firstEmptySlot, slotInserted}
+use Rattle.index.specs.Index.{slotCount, firstEmptySlot, seeks, slotsAfter}
 use Rattle.index.specs.Refusals.{refusalBySlots}
 use Rattle.index.specs.steps.Checks.{AppendPre}
 use Rattle.index.specs.steps.Part.{Closable, PartIndex, partBuckets, refusalBy}
 
--- whatever was lent, an accepted put has the first empty slot of its probe sequence, and what it stores has room
+-- a put without an empty slot among m
+pub record WithoutSlot (sought : Bool) (m : ℕ) (d : Decision) : Type 0 where
+  pub refused : sought ≡ true → d .refusal ≡ 24
+  pub accepted : sought ≡ false → (d .refusal ≡ 0) × (d .slot ≡ m)
+
+-- whatever was lent, an accepted put has the first empty slot of its probe sequence, or with repeats on none, and what
+-- it stores has room
 pub record InBounds (s : State) (words : List ℕ) (e : Entry) (h k : ℕ) : Type 0 where
-  pub inside : k < slotCount words
-  pub first : k ≡ firstEmptySlot words (hashOf (e .name))
+  pub inside : seeks s ≡ true → k < slotCount words
+  pub first : seeks s ≡ true → k ≡ firstEmptySlot words (hashOf (e .name))
+  pub none : seeks s ≡ false → k ≡ slotCount words
   pub stores : AppendPre s e h
 
 -- the refusal is the rule's by an index of the tables from `from` on, if the name's table is one of them
@@ -37,8 +44,7 @@ pub record Decided (s : State) (words : List ℕ) (e : Entry) (h : ℕ) (d : Dec
 pub record PutHashed (s : State) (words : List ℕ) (e : Entry) (refusal : ℕ) (t : State)
     (words′ : List ℕ) : Type 0 where
   pub refused : (refusal ≡ 0 → ⊥) → (t ≡ s) × (words′ ≡ words)
-  pub accepted : refusal ≡ 0
-      → (t ≡ appended s e) × (words′ ≡ slotInserted words (hashOf (e .name)) (s .writer .end))
+  pub accepted : refusal ≡ 0 → (t ≡ appended s e) × (words′ ≡ slotsAfter s words e)
   pub number : refusal ≡ refusalBySlots s words e
   pub answer : RefusesBy s words e refusal
   -- an index of the tables from `from` on is one again, and the record still closes

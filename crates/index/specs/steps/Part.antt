@@ -2,7 +2,7 @@
 -- rule stands here: proofs/ joins it to the rules.
 use Prim.Native.Nat.{ℕ, _≤_}
 use mathlib.Core.Path.{_≡_}
-use mathlib.Core.Bool.{Bool, cond, _&&_}
+use mathlib.Core.Bool.{Bool, true, cond, _&&_}
 use mathlib.Core.List.{List}
 use lib.ListN.{length}
 use lib.Dec.{eqb, leb}
@@ -12,7 +12,7 @@ use Rattle.image.specs.Image.{Entry}
 use Rattle.writer.specs.State.{State}
 use Rattle.writer.specs.Put.{putRefusal}
 use Rattle.writer.specs.Close.{recorded, closeRefusal}
-use Rattle.index.specs.Index.{slotCount, entryBuckets, FilledWith}
+use Rattle.index.specs.Index.{slotCount, entryBuckets, FilledWith, seeks}
 
 -- close would accept record and buffer, and there are 256 counts
 pub record Closable (s : State) : Type 0 where
@@ -27,11 +27,12 @@ inPart from b = leb from (tableOf (b .hash))
 abbrev pub partBuckets : ℕ → List Entry → List Bucket
 partBuckets from es = filter (inPart from) (entryBuckets es)
 
--- the slots are filled with them, and there is a slot for each
+-- with repeats off the slots are filled with them, and there is a slot for each
 pub record PartIndex (from : ℕ) (s : State) (words : List ℕ) : Type 0 where
-  pub capacity : length (partBuckets from (recorded s)) ≤ slotCount words
-  pub slots : FilledWith words (partBuckets from (recorded s))
+  pub capacity : seeks s ≡ true → length (partBuckets from (recorded s)) ≤ slotCount words
+  pub slots : seeks s ≡ true → FilledWith words (partBuckets from (recorded s))
 
--- put's refusal by an index of `stored` entries; where put would accept, 24 when every slot is taken
+-- put's refusal by an index of `stored` entries; where put would accept, with repeats off, 24 when every slot is taken
 abbrev pub refusalBy : ℕ → State → List ℕ → Entry → ℕ
-refusalBy stored s words e = cond (eqb (putRefusal s e) 0 && leb (slotCount words) stored) 24 (putRefusal s e)
+refusalBy stored s words e =
+    cond (seeks s && (eqb (putRefusal s e) 0 && leb (slotCount words) stored)) 24 (putRefusal s e)

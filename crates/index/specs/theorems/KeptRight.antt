@@ -6,6 +6,7 @@ use lib.ListN.{length, getD}
 use Rattle.image.specs.declared.Mode.{Mode}
 use Rattle.image.specs.Image.{headSize}
 use Rattle.writer.specs.declared.Repeats.{Repeats}
+use Rattle.writer.specs.declared.Repeats.the-variants.{On}
 use Rattle.writer.specs.State.{State, fresh}
 use Rattle.writer.specs.Close.{afterClose}
 use Rattle.lists.specs.theorems.LongerBuffer.{movedTo, Longer}
@@ -19,6 +20,8 @@ pub record KeptRight : Type 0 where
   -- cleared slots are a right index of a fresh record
   pub fresh-right : (mode : Mode) (repeats : Repeats) (buffer words : List ℕ) → headSize ≤ length buffer
       → ((i : ℕ) → getD words i 0 ≡ 0) → Right (fresh mode repeats buffer) words
+  -- with repeats on any words are
+  pub fresh-any : (mode : Mode) (buffer words : List ℕ) → headSize ≤ length buffer → Right (fresh mode On buffer) words
   -- a close keeps it right
   pub close-right : (s : State) (words : List ℕ) → Bytes s
       → Right s words → Right (afterClose s) words

@@ -3,14 +3,14 @@
 -- speaks of demand 3's definitions: `answersOf`, `afterList`, `due`.
 use Prim.Native.Nat.{ℕ, _≤_}
 use mathlib.Core.Path.{_≡_}
-use mathlib.Core.Bool.{cond, _&&_}
+use mathlib.Core.Bool.{true, cond, _&&_}
 use mathlib.Core.List.{List, [], _∷_, _++_, map}
 use lib.ListN.{length, replicate}
 use lib.Dec.{eqb, ltb, leb}
 use Rattle.image.specs.declared.Mode.{Mode}
 use Rattle.image.specs.Image.{Entry, headSize}
 use Rattle.writer.specs.declared.Repeats.{Repeats}
-use Rattle.writer.specs.State.{State, fresh}
+use Rattle.writer.specs.State.{State, fresh, refusesRepeats}
 use Rattle.writer.specs.Close.{closeRefusal, afterClose, closedImage}
 use Rattle.writer.specs.Grown.{grownRefusal}
 use Rattle.lists.specs.Calls.{Call, put, close, putAll, acceptedOne, acceptedBy, acceptedAfter, putDue, due, WordIds}
@@ -52,11 +52,12 @@ Run s words (anew lent ∷ cs) (r ∷ rs) t words′ =
 
 -- ---- what is due
 
--- the refusal that is due to a call by an index of m slots after the accepted puts es: demand 3's, and 24 where a put
--- would be accepted and m puts are
+-- the refusal that is due to a call by an index of m slots after the accepted puts es: demand 3's, and with repeats off
+-- 24 where a put would be accepted and m puts are
 abbrev pub dueToIndexed : ℕ → Mode → Repeats → ℕ → List Entry → Call → ℕ
 dueToIndexed m mode repeats n es (put e) =
-    cond (eqb (putDue mode repeats n es e) 0 && leb m (length es)) 24 (putDue mode repeats n es e)
+    cond (refusesRepeats repeats && (eqb (putDue mode repeats n es e) 0 && leb m (length es))) 24
+    (putDue mode repeats n es e)
 dueToIndexed m mode repeats n es close = 0
 
 -- to making an index of m slots: 24 when more puts are accepted
@@ -107,11 +108,13 @@ plainOf buffer cs rs = plainFrom (record { buffer = buffer; calls = []; answers 
 
 -- ---- a slot for each put
 
--- by the puts that demand 3 accepts, each index has a slot for each of them until it is made anew
+-- by the puts that demand 3 accepts, each index has a slot for each of them until it is made anew; with repeats on a
+-- put needs none
 abbrev pub Enough : ℕ → Mode → Repeats → ℕ → List Entry → List Step → Type 0
 Enough m mode repeats n es [] = Unit {0}
 Enough m mode repeats n es (call c ∷ cs) =
-    (length (acceptedAfter mode repeats n es c) ≤ m) × Enough m mode repeats n (acceptedAfter mode repeats n es c) cs
+    (refusesRepeats repeats ≡ true → length (acceptedAfter mode repeats n es c) ≤ m)
+    × Enough m mode repeats n (acceptedAfter mode repeats n es c) cs
 Enough m mode repeats n es (grow longer ∷ cs) = Enough m mode repeats (length longer) es cs
 Enough m mode repeats n es (anew lent ∷ cs) =
     (length es ≤ slotCount lent) × Enough (slotCount lent) mode repeats n es cs
@@ -157,9 +160,10 @@ pub record ListsByIndex : Type 0 where
       (words′ : List ℕ) → headSize ≤ length buffer → WordIds mode cs
       → Right (fresh mode repeats buffer) words
       → Run (fresh mode repeats buffer) words (map call cs) rs t words′
-      → length (acceptedPuts mode repeats buffer cs) ≤ slotCount words
+      → (refusesRepeats repeats ≡ true → length (acceptedPuts mode repeats buffer cs) ≤ slotCount words)
       → RunOfCalls mode repeats buffer cs rs t
-  -- once every slot is taken, each later put that would be accepted gets 24, and the other refusals stay what they are
+  -- with repeats off, once every slot is taken, each later put that would be accepted gets 24, and the other refusals
+  -- stay what they are
   pub from-then : (m : ℕ) (mode : Mode) (repeats : Repeats) (n : ℕ) (es : List Entry) (cs : List Call)
-      → m ≤ length es
+      → refusesRepeats repeats ≡ true → m ≤ length es
       → dueIndexed m mode repeats n es (map call cs) ≡ map (dueToIndexed m mode repeats n es) cs

@@ -4,22 +4,21 @@ use native.Mathlib.Omega.{arith}
 use mathlib.Core.Path.{_≡_, sym, ap, subst, _∙_}
 use mathlib.Core.Bool.{Bool, false}
 use mathlib.Core.Logic.{⊎-elim}
-use Rattle.writer.specs.State.{refusesRepeats}
 use Rattle.index.specs.Index.{slotCount, slotAt}
-use Rattle.index.specs.Probe.{duplicateAt}
+use Rattle.index.specs.Probe.{hasNameAt}
 use Rattle.index.proofs.Probing.{Rest, rest-start, probe-none, rest-end, rest-empty, rest-match, rest-next}
 use borrow.Author.Needs.{needs}
 use Rattle.index.proofs.slots.probe.Statement.{statement}
 use Rattle.index.proofs.slots.probe.Tie as tie
 
 abbrev Inv-loop : tie.InvT-loop
-Inv-loop repeats bytes slots h name m k₀ left₀ k left = Rest slots h (duplicateAt (refusesRepeats repeats) bytes name) left k
+Inv-loop bytes slots h name m k₀ left₀ k left = Rest slots h (hasNameAt bytes name) left k
 
 abbrev μ-loop : tie.MeasureT-loop
-μ-loop repeats bytes slots h name m k₀ left₀ k left = left
+μ-loop bytes slots h name m k₀ left₀ k left = left
 
-abbrev duplicate : tie.Start Inv-loop μ-loop → ℕ → Bool
-duplicate s = duplicateAt (refusesRepeats (s .args .repeats)) (s .args .bytes .now) (s .args .name .now)
+abbrev named : tie.Start Inv-loop μ-loop → ℕ → Bool
+named s = hasNameAt (s .args .bytes .now) (s .args .name .now)
 
 -- the beginning, from a turn of the loop
 abbrev begun : tie.In-loop Inv-loop μ-loop → tie.Start Inv-loop μ-loop
@@ -32,7 +31,7 @@ says v e f g = ap v (sym e) ∙ sym f ∙ g
 returns : tie.Need-returns Inv-loop μ-loop
 returns c =
     let s = c .before .before .before .before in
-    probe-none (s .args .slots .now) (s .args .h) (duplicate s) (c .if1 .taken)
+    probe-none (s .args .slots .now) (s .args .h) (named s) (c .if1 .taken)
 
 start-requires : tie.Need-start-requires Inv-loop μ-loop
 start-requires c κs = omega (arith, c .if1 .left)
@@ -41,8 +40,8 @@ loop-holds : tie.Need-loop-holds Inv-loop μ-loop
 loop-holds c =
     let s = c .before .before .before .before .before in
     let words = s .args .slots .now in
-    subst (Rest words (s .args .h) (duplicate s) (slotCount words)) (sym (c .start .ensures .is))
-    (rest-start words (s .args .h) (duplicate s) (omega (arith, c .before .if1 .left)))
+    subst (Rest words (s .args .h) (named s) (slotCount words)) (sym (c .start .ensures .is))
+    (rest-start words (s .args .h) (named s) (omega (arith, c .before .if1 .left)))
 
 offset-at-requires : tie.Need-offset-at-requires Inv-loop μ-loop
 offset-at-requires c κs = c .before .loop .inv .inside
@@ -66,7 +65,7 @@ returns-3 c =
     let p = o .before in
     rest-match (p .before .loop .inv) (p .loop-test .taken) (λ z. x .before .if2 .left (o .offset-at .ensures ∙ z))
     (sym (x .hash-at .ensures) ∙ c .before .before .if3 .taken)
-    (says (duplicate (begun p)) (o .offset-at .ensures) (c .before .is-duplicate .ensures) (c .if4 .taken))
+    (says (named (begun p)) (o .offset-at .ensures) (c .before .has-name .ensures) (c .if4 .taken))
 
 next-requires : tie.Need-next-requires Inv-loop μ-loop
 next-requires c κs = c .before .before .before .before .before .loop .inv .inside
@@ -84,7 +83,7 @@ loop-again c =
     let p = o .before in
     let l = p .before .loop in
     let words = begun p .args .slots .now in
-    let v = duplicate (begun p) in
+    let v = named (begun p) in
     let other : slotAt words (l .k) .hash ≡ begun p .args .h → v (slotAt words (l .k) .at) ≡ false = λ e.
     ⊎-elim
     (λ w. says v (o .offset-at .ensures) (w .1 .ensures) (w .2 .left))
