@@ -526,8 +526,8 @@ cqdb_build_answer cqdb_build_parts(uint32_t mode, uint32_t repeats, uint8_t *buf
      needed up to 4,608 names of one table, some 1,150,000 in all. The image is written straight into the buffer. With more names
      some words are needed, two for each name of the largest table, or else the tables are filled name by name: 1,500,000 names
      then take three times as long.
-   - A name is refused: the names are put one by one from the beginning. With 5n words that is linear, and takes up to three times as
-     long as the list without it. Each put looks into an index of the names. There is an index from 2n words on, but the fuller it
+   - A name is refused: the names are put one by one from the beginning. With 5n words that is linear, and takes some three times as
+     long as the list without it up to 100,000 names, six times at 1,000,000. Each put looks into an index of the names. There is an index from 2n words on, but the fuller it
      gets the more slots a put reads: with 2n words 100,000 names took 7 times as long as with 4n. With fewer it is quadratic where
      repeats are off, since each put walks the entries before it: 16,000 names took 0.6 s.
    - With repeats on and whatever is lent, a name that is put k times costs k * k / 2 reads of buckets, as in cqdb_close: equal names
