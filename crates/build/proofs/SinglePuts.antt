@@ -17,7 +17,7 @@ use Rattle.writer.specs.State.{State, fresh}
 use Rattle.writer.specs.Put.{putRefusal, appended, afterPut, entryOf}
 use Rattle.lists.specs.Calls.{Call, put, after, answers}
 use Rattle.lists.specs.Demand3.{answersOf, afterList}
-use Rattle.index.specs.Index.{slotCount, Right, indexedRefusal, afterIndexed}
+use Rattle.index.specs.Index.{slotCount, seeks, Right, indexedRefusal, afterIndexed}
 use Rattle.index.specs.Promise.{PutIndexed}
 use Rattle.index.proofs.RightKept.{right-fresh}
 use Rattle.build.specs.Build.{callsOf}
@@ -38,8 +38,10 @@ by-index {s} {slots} {e} pre lent done =
     let some : 0 < length slots = omega (arith, lent) in
     let right = pre .index some in
     let by : indexedRefusal s slots e ≡ putRefusal s e =
-    ap (λ (b : Bool). cond (eqb (putRefusal s e) 0 && b) 24 (putRefusal s e)) (lt-leb (slotCount slots) (s .writer .entries) (pre .spare some))
-    ∙ ap (λ (b : Bool). cond b 24 (putRefusal s e)) (and-false (eqb (putRefusal s e) 0)) in
+    ap (λ (b : Bool). cond (seeks s && (eqb (putRefusal s e) 0 && b)) 24 (putRefusal s e))
+    (lt-leb (slotCount slots) (s .writer .entries) (pre .spare some))
+    ∙ ap (λ (b : Bool). cond (seeks s && b) 24 (putRefusal s e)) (and-false (eqb (putRefusal s e) 0))
+    ∙ ap (λ (b : Bool). cond b 24 (putRefusal s e)) (and-false (seeks s)) in
     record {
       answer = done .answer right ∙ by;
       leaves = done .leaves right ∙ ap (λ (k : ℕ). cond (eqb k 0) (appended s e) s) by;
