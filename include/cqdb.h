@@ -791,7 +791,7 @@ cqdb_preflight_dates_answer cqdb_preflight_dates_words(const uint32_t *windows, 
    grows with the round times the windows. */
 static inline cqdb_preflight_dates_answer cqdb_preflight_dates(const cqdb_window *windows, size_t windows_len, const uint32_t *round,
                                                                size_t round_len, cqdb_date last, cqdb_date date) {
-    return cqdb_preflight_dates_words((const uint32_t *)windows, 3 * windows_len, round, round_len, last, date);
+    return cqdb_preflight_dates_words(windows_len == 0 ? NULL : &windows->id, 3 * windows_len, round, round_len, last, date);
 }
 
 /* A whole round in one call, in both directions. The archive exports cqdb_round_words and cqdb_name_round_words, which take the

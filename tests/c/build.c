@@ -80,12 +80,12 @@ int main(void) {
     static const uint64_t ends[] = {1, 2, 3, 5}, fall[] = {1, 2, 1, 5}, past[] = {1, 2, 3, 6};
     static const uint32_t ids[] = {0, 1, 2, 3};
     static uint8_t buf[4096], single[4096];
-    uint32_t refusals[5] = {9, 9, 9, 9, 9}, work[24];
+    uint32_t refusals[5] = {9, 9, 9, 9, 9}, work[20];
     cqdb_build_needs_answer needs = cqdb_build_needs(CQDB_TWOWAY, sizeof(names), ids, 4);
-    expect(needs.bytes == 2072 + 5 + 4 * 25 + 4 * 4 && needs.words == 24, "the list needs these bytes and words");
+    expect(needs.bytes == 2072 + 5 + 4 * 25 + 4 * 4 && needs.words == 20, "the list needs these bytes and words");
 
     memset(work, 0xff, sizeof(work));
-    cqdb_build_answer a = cqdb_build(CQDB_TWOWAY, CQDB_REPEATS_OFF, buf, needs.bytes, names, sizeof(names), ends, ids, 4, refusals, 5, work, 24);
+    cqdb_build_answer a = cqdb_build(CQDB_TWOWAY, CQDB_REPEATS_OFF, buf, needs.bytes, names, sizeof(names), ends, ids, 4, refusals, 5, work, 20);
     expect(a.refusal == 0 && a.accepted == 2 && a.size == 2072 + 2 * 26 + 4 * 2, "A and B are accepted");
     expect(refusals[0] == 0 && refusals[1] == 0 && refusals[2] == CQDB_REPEATED && refusals[3] == CQDB_ZERO_BYTE, "A again, and the zero byte, are refused");
     expect(refusals[4] == 9, "the place behind the last name keeps its content");

@@ -145,7 +145,19 @@ pub extern "C" fn cqdb_close_parts(
             size: 0,
         };
     }
-    let done = writer::close(writer_of(w), counts, &mut *buf);
+    let record = writer_of(w);
+    // Both branches make the same call. With a single one the back end of the compiler places the tests above before
+    // the code that takes the stack; that code, for more than eight pages, overwrites a register that holds the mode.
+    // tests/archive-parts looks for this in every function.
+    if w.mode == 0 {
+        let done = writer::close(record, counts, &mut *buf);
+        let answer = done.answer;
+        return CloseAnswer {
+            refusal: close_number(answer),
+            size: close_size(answer),
+        };
+    }
+    let done = writer::close(record, counts, &mut *buf);
     let answer = done.answer;
     CloseAnswer {
         refusal: close_number(answer),

@@ -27,10 +27,18 @@ returns c = close-unknown (H (c .before)) (known-is (c .before) (not-true _ (c .
 returns-2 : tie.Need-returns-2
 returns-2 c =
     let done = c .before .before .before .before .close in
-    let w = c .before .before .before .before .before .before in
+    let w = c .before .before .before .before .before .before .before .before in
     let k = w .before .before in
     close-in-place (H k) _ _ _ _ _ _ (known-is k (not-false _ (w .before .if1 .left)))
     (w .writer-of .ensures ∙ ap writerOf (k .before .record-in .ensures)) (done .ensures) (c .before .close-number .ensures) (c .close-size .ensures)
+
+returns-3 : tie.Need-returns-3
+returns-3 c =
+    let done = c .before .before .before .before .close2 in
+    let w = c .before .before .before .before .before .before .before .before in
+    let k = w .before .before in
+    close-in-place (H k) _ _ _ _ _ _ (known-is k (not-false _ (w .before .if1 .left)))
+    (w .writer-of .ensures ∙ ap writerOf (k .before .record-in .ensures)) (done .ensures) (c .before .close-number2 .ensures) (c .close-size2 .ensures)
 
 pub cqdb-close-parts-spec : {M : Type 1} → statement M
 cqdb-close-parts-spec =
@@ -44,4 +52,9 @@ cqdb-close-parts-spec =
     (λ c κs. search needs)
     (λ c κs. search needs)
     (λ c. search needs)
-    returns-2)
+    returns-2
+    (λ c κs. search needs)
+    (λ c κs. search needs)
+    (λ c κs. search needs)
+    (λ c. search needs)
+    returns-3)
