@@ -166,10 +166,12 @@ fn accepted_list(random: &mut Random, names: &Names, tally: &mut Tally) -> usize
     n
 }
 
-// A list of n names, clean, or with a name that comes again or one with a zero byte; in a buffer of the image's size, longer, or too
+// A list of n different names, clean, or with a name that comes again or one with a zero byte; in a buffer of the image's size, longer, or too
 // short for the last name; with memory for an index, and with none.
 fn sized_list(random: &mut Random, n: usize, tally: &mut Tally) {
-    let mut puts: Vec<Put> = (0..n).map(|i| (format!("P{:08X}", random.word() ^ i as u32).into_bytes(), i as u32)).collect();
+    let base = random.word();
+    let name = |i: u32| format!("P{:08X}", base.wrapping_add(i).wrapping_mul(2_654_435_761)).into_bytes();
+    let mut puts: Vec<Put> = (0..n as u32).map(|i| (name(i), i)).collect();
     // single puts with repeats off walk all earlier entries
     let spoilt = n <= 400 && n > 1 && random.once_in(2);
     if spoilt {
