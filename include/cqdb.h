@@ -523,7 +523,7 @@ cqdb_build_answer cqdb_build_parts(uint32_t mode, uint32_t repeats, uint8_t *buf
    The words at work are scratch memory, lent for speed: how many there are, and what they hold, changes no answer, and what they
    hold afterwards is unspecified. What a list of n names costs, by the list and by the words:
    - No name is refused, or repeats are on and none has a zero byte, and the buffer has room for all names: linear, and no word is
-     needed up to 4,608 names of one table, some 1,150,000 in all. The image is written straight into the buffer. With more names
+     needed up to 4,608 names of one table, some 1,100,000 in all. The image is written straight into the buffer. With more names
      some words are needed, two for each name of the largest table, or else the tables are filled name by name: 1,500,000 names
      then take three times as long.
    - A name is refused: the names are put one by one from the beginning. With 5n words that is linear, and takes some three times as
@@ -727,8 +727,9 @@ cqdb_moved_answer cqdb_moved(const uint8_t *old_image, size_t old_len, const uin
     8  the old and the new image name at least one id alike, sighted or not
     9  each id of the round that the old image names has the same name in the new one, unless it is accepted
    10  no id, of any number, whose old name a sighted id has now, has lost it. What is accepted does not matter
-   Both calls take any bytes, are never refused and change nothing. Their time grows with the round times the sheet, and with the
-   square of the round. */
+   Both calls take any bytes, are never refused and change nothing. Their time grows with the bytes of the images, with the round
+   times the sheet, and with the square of the round; that of cqdb_preflight also with the round times the ids that lost their name,
+   and with the renamed ids of the round times the accepted ones. */
 
 /* What a report rests on. A list without elements may have a null pointer and length 0. */
 typedef struct {
