@@ -9,7 +9,8 @@
    What the caller owes:
    - Bytes and lists are lent as a pointer and a length. The pointer is valid for that many bytes or elements. Where the
      length is 0 it may be NULL, which is taken as no bytes.
-   - `counts` points to 256 words, those of cqdb_lengths to 16, and `w` to a whole cqdb_writer.
+   - `counts` points to 256 words, those of cqdb_lengths to 16, `numbers` to 4 words, `sizes` to 2 of 64 bits, and `w` to a whole
+     cqdb_writer.
    - What a call writes (the buffer of cqdb_put, cqdb_put_indexed, cqdb_close, cqdb_sheet_write, cqdb_bundle_append, cqdb_load
      and cqdb_build, the counts, the writer, the slots of cqdb_index and cqdb_put_indexed, the output of cqdb_page and
      cqdb_page_part, the answers of cqdb_round and cqdb_name_round, the refusals and the work of cqdb_build) overlaps nothing
@@ -21,11 +22,11 @@
 
    Files: an image may be a mapped file. One that is replaced, by a rename of a new file, stays mapped as it was. One that is
    written in place while a call runs breaks what the caller owes: the call may give answers of neither image, or read outside.
-   One that is cut short ends the process at the first byte behind its new end, by the signal SIGBUS. So write a new file beside
-   the old one and rename it; examples/c/build_list.c does, and examples/c/ask_file.c maps one.
+   One that is cut short reads as zeros up to the end of the page in which it now ends, so that a call may accept it and find
+   nothing; behind that page the process ends by the signal SIGBUS. So write a new file beside the old one and rename it; examples/c/build_list.c does, and examples/c/ask_file.c maps one.
 
    What the calls cost. The times are those of one run of `bench/run costs` on an AMD EPYC, in ns, with names of 9 bytes, for
-   4,096 and for 100,000 entries; calls that do not depend on the number of entries have the first number alone. Calls on images that
+   4,096 and for 100,000 entries; rows that were measured once have the first number alone. Calls on images that
    exceed the processor's caches take longer (docs/BENCHMARKS.md has 1,000,000 entries). A put with repeats off takes a put's time and
    that of each earlier entry, so cqdb_put_indexed or cqdb_build is for long lists. The stack is rounded up, in KB of 1,024 bytes;
    calls without a number take less than 1 KB.
@@ -80,8 +81,8 @@
      to_str                          call                                       1.9       3.3
      version_number                  call                                       1.3
 
-   When an image can be read: from the cqdb_close that made it to the next accepted cqdb_put in the same buffer, or from a
-   copy. That put writes where the close had placed the tables, so until the next close the buffer is no image, though
+   When an image can be read: from the cqdb_close that made it to the next accepted cqdb_put or cqdb_put_indexed in the
+   same buffer, or from a copy. That put writes where the close had placed the tables, so until the next close the buffer is no image, though
    cqdb_open may still accept it: names and ids may then give nothing, or each other's answers. See cqdb_put.
 
    What is proved is the archive. The declarations, structs and inline functions of this file are tested. The inline functions
@@ -139,8 +140,8 @@ extern "C" {
 #define CQDB_REPEATED 16u        /* put, put_indexed: repeats are off, and an earlier entry has this name */
 #define CQDB_NOT_CANONICAL 17u   /* average, lengths, one_to_one: the bytes are not the image that some list of puts closes to */
 #define CQDB_NO_ENTRIES 18u      /* average, lengths: the image has no entry */
-#define CQDB_TOO_FEW_BYTES 19u   /* sheet_read: the file ends before its third section does */
-#define CQDB_LEFT_OVER_BYTES 20u /* sheet_read: bytes follow the third section */
+#define CQDB_TOO_FEW_BYTES 19u   /* sheet_read, preflight, preflight_first: the file ends before its third section does */
+#define CQDB_LEFT_OVER_BYTES 20u /* sheet_read, preflight, preflight_first: bytes follow the third section */
 #define CQDB_SHEET_TOO_LARGE 21u /* sheet_write: a list has more than 65,535 ids, or the buffer is too short */
 #define CQDB_NO_SUCH_DATE 22u    /* name_on, preflight_dates: a date, one asked about or a window's, does not exist or is out of bounds */
 #define CQDB_NOT_BEFORE_END 23u  /* name_on, preflight_dates: a window does not start before its end */
@@ -388,8 +389,8 @@ static inline uint32_t cqdb_begin_with(cqdb_writer *w, uint32_t mode, uint32_t r
 
 /* Makes *w, whatever it held, a fresh writer for the buffer: the mode, repeats off, the buffer's length, end 2,072,
    otherwise zeros. Reads and changes no byte of the buffer. Gives 0, or the first refusal that applies: 2 for a mode that is
-   neither 0 nor 1, 1 for a buffer under 2,072 bytes. Each cqdb_put then looks at all earlier entries; cqdb_put_indexed and
-   cqdb_build do not. */
+   neither 0 nor 1, 1 for a buffer under 2,072 bytes. Each cqdb_put then looks at all earlier entries;
+   cqdb_put_indexed does not, nor does cqdb_build with the words that cqdb_build_needs gives. */
 CQDB_LENGTH_ALONE(3) CQDB_INLINED
 static inline uint32_t cqdb_begin(cqdb_writer *w, uint32_t mode, const uint8_t *buf, size_t len) {
     return cqdb_begin_with(w, mode, CQDB_REPEATS_OFF, buf, len);
@@ -409,9 +410,9 @@ static inline uint32_t cqdb_begin_repeats(cqdb_writer *w, uint32_t mode, const u
    its counts and back size, otherwise 16 when one of them has this name; 3 when the finished size exceeds the buffer or
    4,294,967,295. The finished size is, after this put, end + 16 x entries + 4 x back (back counts in two-way mode only).
 
-   With repeats off a put walks all earlier entries, some 5 ns for each with names of 9 bytes. So n puts take n x n / 2 such
-   steps: 40 ms for 4,096 names, half a minute for 100,000. With repeats on a put does not look at them: 4,096 puts take
-   0.1 ms, 100,000 take 3 ms. cqdb_put_indexed takes as little with repeats off, and less with repeats on.
+   With repeats off a put walks all earlier entries, some 4 to 5 ns for each with names of 9 bytes. So n puts take n x n / 2
+   such steps: 40 ms for 4,096 names, some 20 s for 100,000. With repeats on a put does not look at them: 4,096 puts take
+   0.1 ms, 100,000 take 2 ms. cqdb_put_indexed takes as little with repeats off, and less with repeats on.
 
    The bytes at w->end are those where the last close placed its tables. After an accepted put the buffer is therefore no
    image, though its head is still that of the last close and cqdb_open may accept it. After A->0, B->1, close and C->2,
@@ -454,11 +455,12 @@ static inline cqdb_close_answer cqdb_close(const cqdb_writer *w, uint8_t *buf, s
    name be accepted that an earlier entry has.
 
    With repeats on no name is sought, and cqdb_put_indexed reads and writes no slot: any words are right for a writer from
-   cqdb_begin_repeats, n may be 0, and 24 does not occur. It then saves put's look at all 256 counts. */
+   cqdb_begin_repeats, n may be 0, and cqdb_put_indexed never gives 24. It then saves put's look at all 256 counts. cqdb_index is not
+   needed then; it still gives 24 where there are more entries than n / 2. */
 
 /* How many words to lend for so many names: 4 for each, so that the index is half full at the end; 2^64 - 1 where that is more
    than a size can be. An index of n words, an odd last one apart, has room for n / 2 names. The fuller it gets the longer a put
-   takes: with 2 words for each name, seven times as long at 100,000. */
+   takes: with 2 words for each name, nearly nine times as long at 100,000. */
 size_t cqdb_index_words(size_t names);
 
 /* The archive exports cqdb_index_parts and cqdb_put_indexed_parts, which cqdb_index and cqdb_put_indexed call. They take the writer in
@@ -483,7 +485,7 @@ static inline uint32_t cqdb_index(const cqdb_writer *w, const uint8_t *buf, size
 
    By any other words, and with any writer, it gives the first that applies: 2 when the writer's mode, repeats, length or end does not
    fit the buffer; 13 when the name has a zero byte; 3 for a name of 4,294,967,295 bytes or more; 16 when repeats are off and a slot,
-   before the first empty one from hash / 256 modulo n / 2 on, has the name's hash and the offset of an entry of this name before
+   before the first empty one from slot (hash / 256) modulo (n / 2) on, has the name's hash and the offset of an entry of this name before
    w->end; 3 when the finished size is too large, as in cqdb_put; 2 when the count of the name's table cannot be raised; 24 when
    repeats are off and no slot is empty; else 0. Other counts and other entries are not looked at: where cqdb_put gives 2 or 4 for them, this may give 0. */
 static inline uint32_t cqdb_put_indexed(cqdb_writer *w, uint8_t *buf, size_t len, uint32_t *slots, size_t n,
@@ -522,16 +524,18 @@ cqdb_build_answer cqdb_build_parts(uint32_t mode, uint32_t repeats, uint8_t *buf
 
    The words at work are scratch memory, lent for speed: how many there are, and what they hold, changes no answer, and what they
    hold afterwards is unspecified. What a list of n names costs, by the list and by the words:
-   - No name is refused, or repeats are on and none has a zero byte, and the buffer has room for all names: linear, and no word is
-     needed up to 4,608 names of one table, some 1,100,000 in all. The image is written straight into the buffer. With more names
+   - The buffer has room for all names, none has a zero byte, and with repeats off all differ: linear, and no word is needed
+     up to 4,608 names of one table, some 1,100,000 in all. The image is written straight into the buffer. With more names
      some words are needed, two for each name of the largest table, or else the tables are filled name by name: 1,500,000 names
-     then take three times as long.
-   - A name is refused: the names are put one by one from the beginning. With 5n words that is linear, and takes some three times as
-     long as the list without it up to 100,000 names, six times at 1,000,000. Each put looks into an index of the names. There is an index from 2n words on, but the fuller it
-     gets the more slots a put reads: with 2n words 100,000 names took 7 times as long as with 4n. With fewer it is quadratic where
+     then take four times as long.
+   - A name is refused: the names are put one by one from the beginning. With 5n words that is linear, apart from names that
+     come often (below), and takes some three times as long as the list without it up to 100,000 names, six times at 1,000,000. Each
+     put looks into an index of the names. There is an index from 2n words on, but the fuller it gets the more slots a put reads:
+     with 2n words 100,000 names took 4.6 times as long as with 4n. With fewer it is quadratic where
      repeats are off, since each put walks the entries before it: 16,000 names took 0.6 s.
-   - With repeats on and whatever is lent, a name that is put k times costs k * k / 2 reads of buckets, as in cqdb_close: equal names
-     have one probe sequence in their table of the image. 64,000 puts of one name took 1.8 s. */
+   - A name that is put k times costs k * k / 2 reads of buckets, whatever is lent, with repeats on as in cqdb_close, and with repeats
+     off too, since the image of all names is tried first: equal names have one probe sequence in their table. 64,000 puts of one
+     name took 1.8 s with either choice. */
 static inline cqdb_build_answer cqdb_build(uint32_t mode, uint32_t repeats, uint8_t *buf, size_t len,
                                            const uint8_t *names, size_t names_len, const uint64_t *ends, const uint32_t *ids,
                                            size_t n, uint32_t *refusals, size_t places, uint32_t *work, size_t words) {
@@ -545,8 +549,8 @@ typedef struct {
 } cqdb_build_needs_answer;
 
 /* In a buffer of so many bytes no put of the list is refused with 3, with either choice of repeats, unless they exceed
-   4,294,967,295; with so many words it takes linear time, also where a name is refused. names_len is the length of the joined names, and n the
-   number of ids. Without a refused put and without a byte behind the last name, bytes is the image's size. A mode other than 0
+   4,294,967,295; with so many words it takes linear time, also where a name is refused, unless one name comes very often (see
+   cqdb_build). names_len is the length of the joined names, and n the number of ids. Without a refused put and without a byte behind the last name, bytes is the image's size. A mode other than 0
    is taken as one-way, and what exceeds 2^64 - 1 is given as that. Changes nothing, and reads each id once. */
 cqdb_build_needs_answer cqdb_build_needs(uint32_t mode, size_t names_len, const uint32_t *ids, size_t n);
 
@@ -727,7 +731,7 @@ cqdb_moved_answer cqdb_moved(const uint8_t *old_image, size_t old_len, const uin
     8  the old and the new image name at least one id alike, sighted or not
     9  each id of the round that the old image names has the same name in the new one, unless it is accepted
    10  no id, of any number, whose old name a sighted id has now, has lost it. What is accepted does not matter
-   Both calls take any bytes, are never refused and change nothing. Their time grows with the bytes of the images, with the round
+   Both calls take any bytes and change nothing; a sheet that does not read is question 2, with its refusal. Their time grows with the bytes of the images, with the round
    times the sheet, and with the square of the round; that of cqdb_preflight also with the round times the ids that lost their name,
    and with the renamed ids of the round times the accepted ones. */
 
@@ -782,7 +786,8 @@ typedef struct {
     uint64_t place; /* question 11: the first such place in the round; otherwise 0 */
 } cqdb_preflight_dates_answer;
 
-/* The same windows as words of 32 bits, three to a window, as the struct lies in memory. */
+/* What cqdb_preflight_dates calls: the windows as words of 32 bits, three to a window, as the struct lies in memory; one or two words
+   behind the last window are not read. */
 cqdb_preflight_dates_answer cqdb_preflight_dates_words(const uint32_t *windows, size_t words, const uint32_t *round, size_t round_len,
                                                        cqdb_date last, cqdb_date date);
 

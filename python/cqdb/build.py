@@ -26,7 +26,8 @@ def build(
     encoding: str = "utf-8",
     errors: str = "surrogateescape",
 ) -> Built:
-    """The image of names and their ids: the puts in order and one close, as Writer makes them, in time that grows with the list.
+    """The image of names and their ids: the puts in order and one close, as Writer makes them, in time that grows with the list,
+    unless one name comes very often.
 
     >>> from cqdb import Catalogue
     >>> image, refused = build([("north wall", 0), ("crane", 1), ("crane", 2)])

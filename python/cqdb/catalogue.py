@@ -52,7 +52,7 @@ class Catalogue(Mapping[str, int]):
     def open(cls, path: Path, *, encoding: str = "utf-8", errors: str = "surrogateescape") -> "Catalogue":
         """Opens the image in a file, which is mapped and not read. OSError where the file cannot be read, CQDBError where it is
         no image. A file that is replaced, as by Writer.write, stays mapped as it was; one that is written in place gives other
-        answers, and one that is cut short ends the process by a signal.
+        answers, and one that is cut short may read as zeros, or end the process by a signal.
 
         >>> import tempfile, cqdb
         >>> with tempfile.TemporaryDirectory() as folder:
