@@ -23,12 +23,13 @@
    Files: an image may be a mapped file. One that is replaced, by a rename of a new file, stays mapped as it was. One that is
    written in place while a call runs breaks what the caller owes: the call may give answers of neither image, or read outside.
    One that is cut short reads as zeros up to the end of the page in which it now ends, so that a call may accept it and find
-   nothing; behind that page the process ends by the signal SIGBUS. So write a new file beside the old one and rename it; examples/c/build_list.c does, and examples/c/ask_file.c maps one.
+   nothing; behind that page the process ends by the signal SIGBUS. So write a new file beside the old one and rename it;
+   examples/c/build_list.c does, and examples/c/ask_file.c maps one.
 
    What the calls cost. The times are those of one run of `bench/run costs` on an AMD EPYC, in ns, with names of 9 bytes, for
-   4,096 and for 100,000 entries; rows that were measured once have the first number alone. Calls on images that
-   exceed the processor's caches take longer (docs/BENCHMARKS.md has 1,000,000 entries). A put with repeats off takes a put's time and
-   that of each earlier entry, so cqdb_put_indexed or cqdb_build is for long lists. The stack is rounded up, in KB of 1,024 bytes;
+   4,096 and for 100,000 entries; rows that were measured once have the first number alone. Calls on images that exceed the
+   processor's caches take longer (docs/BENCHMARKS.md has 1,000,000 entries). A put with repeats off takes a put's time and that
+   of each earlier entry, so cqdb_put_indexed or cqdb_build is for long lists. The stack is rounded up, in KB of 1,024 bytes;
    calls without a number take less than 1 KB.
 
      call                            time for each                            4,096   100,000   stack
@@ -81,14 +82,14 @@
      to_str                          call                                       1.9       3.3
      version_number                  call                                       1.3
 
-   When an image can be read: from the cqdb_close that made it to the next accepted cqdb_put or cqdb_put_indexed in the
-   same buffer, or from a copy. That put writes where the close had placed the tables, so until the next close the buffer is no image, though
-   cqdb_open may still accept it: names and ids may then give nothing, or each other's answers. See cqdb_put.
+   When an image can be read: from the cqdb_close that made it to the next accepted cqdb_put or cqdb_put_indexed in the same
+   buffer, or from a copy. That put writes where the close had placed the tables, so until the next close the buffer is no image,
+   though cqdb_open may still accept it: names and ids may then give nothing, or each other's answers. See cqdb_put.
 
    What is proved is the archive. The declarations, structs and inline functions of this file are tested. The inline functions
-   only pass arguments on (rounds: four words for each place; build: one number for both lists; the calls of a writer: its numbers in
-   place; preflight: the fields of a report, three words for each window) or take a C string's length; and cqdb_refusal_text gives a
-   number's text. */
+   only pass arguments on (rounds: four words for each place; build: one number for both lists; the calls of a writer: its numbers
+   in place; preflight: the fields of a report, three words for each window) or take a C string's length; and cqdb_refusal_text
+   gives a number's text. */
 #ifndef CQDB_H
 #define CQDB_H
 
@@ -455,8 +456,8 @@ static inline cqdb_close_answer cqdb_close(const cqdb_writer *w, uint8_t *buf, s
    name be accepted that an earlier entry has.
 
    With repeats on no name is sought, and cqdb_put_indexed reads and writes no slot: any words are right for a writer from
-   cqdb_begin_repeats, n may be 0, and cqdb_put_indexed never gives 24. It then saves put's look at all 256 counts. cqdb_index is not
-   needed then; it still gives 24 where there are more entries than n / 2. */
+   cqdb_begin_repeats, n may be 0, and cqdb_put_indexed never gives 24. It then saves put's look at all 256 counts. cqdb_index is
+   not needed then; it still gives 24 where there are more entries than n / 2. */
 
 /* How many words to lend for so many names: 4 for each, so that the index is half full at the end; 2^64 - 1 where that is more
    than a size can be. An index of n words, an odd last one apart, has room for n / 2 names. The fuller it gets the longer a put
@@ -479,15 +480,16 @@ static inline uint32_t cqdb_index(const cqdb_writer *w, const uint8_t *buf, size
 }
 
 /* By a right index: cqdb_put with the writer's own choice of repeats, and the index is right again. Gives 0, or put's refusals in
-   put's order (2, 13, 16, 3; not 4, since the entries of a right index are the writer's), or else 24 when repeats are off and every
-   slot is taken; the put would be accepted by a larger index. Appends the entry, raises the writer's numbers, with repeats off writes
-   the two words of a slot, and changes no other byte.
+   put's order (2, 13, 16, 3; not 4, since the entries of a right index are the writer's), or else 24 when repeats are off and
+   every slot is taken; the put would be accepted by a larger index. Appends the entry, raises the writer's numbers, with repeats
+   off writes the two words of a slot, and changes no other byte.
 
-   By any other words, and with any writer, it gives the first that applies: 2 when the writer's mode, repeats, length or end does not
-   fit the buffer; 13 when the name has a zero byte; 3 for a name of 4,294,967,295 bytes or more; 16 when repeats are off and a slot,
-   before the first empty one from slot (hash / 256) modulo (n / 2) on, has the name's hash and the offset of an entry of this name before
-   w->end; 3 when the finished size is too large, as in cqdb_put; 2 when the count of the name's table cannot be raised; 24 when
-   repeats are off and no slot is empty; else 0. Other counts and other entries are not looked at: where cqdb_put gives 2 or 4 for them, this may give 0. */
+   By any other words, and with any writer, it gives the first that applies: 2 when the writer's mode, repeats, length or end does
+   not fit the buffer; 13 when the name has a zero byte; 3 for a name of 4,294,967,295 bytes or more; 16 when repeats are off and
+   a slot, before the first empty one from slot (hash / 256) modulo (n / 2) on, has the name's hash and the offset of an entry of
+   this name before w->end; 3 when the finished size is too large, as in cqdb_put; 2 when the count of the name's table cannot be
+   raised; 24 when repeats are off and no slot is empty; else 0. Other counts and other entries are not looked at: where cqdb_put
+   gives 2 or 4 for them, this may give 0. */
 static inline uint32_t cqdb_put_indexed(cqdb_writer *w, uint8_t *buf, size_t len, uint32_t *slots, size_t n,
                                         const uint8_t *name, size_t name_len, uint32_t id) {
     return cqdb_put_indexed_parts(&w->mode, &w->length, w->counts, buf, len, slots, n, name, name_len, id);
@@ -533,8 +535,8 @@ cqdb_build_answer cqdb_build_parts(uint32_t mode, uint32_t repeats, uint8_t *buf
      put looks into an index of the names. There is an index from 2n words on, but the fuller it gets the more slots a put reads:
      with 2n words 100,000 names took 4.6 times as long as with 4n. With fewer it is quadratic where
      repeats are off, since each put walks the entries before it: 16,000 names took 0.6 s.
-   - A name that is put k times costs k * k / 2 reads of buckets, whatever is lent, with repeats on as in cqdb_close, and with repeats
-     off too, since the image of all names is tried first: equal names have one probe sequence in their table. 64,000 puts of one
+   - A name that is put k times costs k * k / 2 reads of buckets, whatever is lent, with repeats on as in cqdb_close, and with
+     repeats off too, since the image of all names is tried first: equal names have one probe sequence in their table. 64,000 puts of one
      name took 1.8 s with either choice. */
 static inline cqdb_build_answer cqdb_build(uint32_t mode, uint32_t repeats, uint8_t *buf, size_t len,
                                            const uint8_t *names, size_t names_len, const uint64_t *ends, const uint32_t *ids,
@@ -550,8 +552,9 @@ typedef struct {
 
 /* In a buffer of so many bytes no put of the list is refused with 3, with either choice of repeats, unless they exceed
    4,294,967,295; with so many words it takes linear time, also where a name is refused, unless one name comes very often (see
-   cqdb_build). names_len is the length of the joined names, and n the number of ids. Without a refused put and without a byte behind the last name, bytes is the image's size. A mode other than 0
-   is taken as one-way, and what exceeds 2^64 - 1 is given as that. Changes nothing, and reads each id once. */
+   cqdb_build). names_len is the length of the joined names, and n the number of ids. Without a refused put and without a byte
+   behind the last name, bytes is the image's size. A mode other than 0 is taken as one-way, and what exceeds 2^64 - 1 is given as
+   that. Changes nothing, and reads each id once. */
 cqdb_build_needs_answer cqdb_build_needs(uint32_t mode, size_t names_len, const uint32_t *ids, size_t n);
 
 /* Order of a round. Needs no image. */
@@ -703,9 +706,10 @@ typedef struct {
     cqdb_str_answer after;
 } cqdb_change_answer;
 
-/* The first id from `from` on, below the larger of the two cqdb_size_hint at 0, that the two images name differently: by a name and
-   another name, byte for byte, or by a name and none. Where none is found, no id from there on is named differently. To list all
-   changes, in rising order, begin with 0 and go on with the id found plus 1: from has 64 bits, so that the last step does not wrap. */
+/* The first id from `from` on, below the larger of the two cqdb_size_hint at 0, that the two images name differently: by a name
+   and another name, byte for byte, or by a name and none. Where none is found, no id from there on is named differently. To list
+   all changes, in rising order, begin with 0 and go on with the id found plus 1: from has 64 bits, so that the last step does not
+   wrap. */
 cqdb_change_answer cqdb_next_change(const uint8_t *old_image, size_t old_len, const uint8_t *new_image, size_t new_len, uint64_t from);
 
 /* found is 1 or 0; both numbers are 0 where the name has not moved. */
@@ -730,10 +734,10 @@ cqdb_moved_answer cqdb_moved(const uint8_t *old_image, size_t old_len, const uin
     7  the old image is canonical and two-way
     8  the old and the new image name at least one id alike, sighted or not
     9  each id of the round that the old image names has the same name in the new one, unless it is accepted
-   10  no id, of any number, whose old name a sighted id has now, has lost it. What is accepted does not matter
-   Both calls take any bytes and change nothing; a sheet that does not read is question 2, with its refusal. Their time grows with the bytes of the images, with the round
-   times the sheet, and with the square of the round; that of cqdb_preflight also with the round times the ids that lost their name,
-   and with the renamed ids of the round times the accepted ones. */
+   10  no id, of any number, whose old name a sighted id has now, has lost it. What is accepted does not matter Both calls take
+   any bytes and change nothing; a sheet that does not read is question 2, with its refusal. Their time grows with the bytes of
+   the images, with the round times the sheet, and with the square of the round; that of cqdb_preflight also with the round times
+   the ids that lost their name, and with the renamed ids of the round times the accepted ones. */
 
 /* What a report rests on. A list without elements may have a null pointer and length 0. */
 typedef struct {
