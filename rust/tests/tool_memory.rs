@@ -151,6 +151,30 @@ fn a_file_that_changes() {
     }
 }
 
+/// So may a sheet that is shown, or the images of a bundle that are listed: both print more than a pipe holds.
+#[test]
+fn a_sheet_or_bundle_that_changes() {
+    let folder = Folder::new();
+    folder.with((0..20_000).map(|id| format!("wall {id}\n")).collect::<String>(), &["sheet", "make", "sheet"]).gives(0);
+    folder.image("image", "7 crane\n");
+    folder.write("bundle", folder.read("image").repeat(20_000));
+    for words in [["sheet", "show", "sheet"], ["bundle", "list", "bundle"]] {
+        let mut child = Command::new(TOOL)
+            .args(words)
+            .current_dir(&folder.0)
+            .stdout(Stdio::piped())
+            .stderr(Stdio::piped())
+            .spawn()
+            .unwrap();
+        std::thread::sleep(std::time::Duration::from_millis(300));
+        OpenOptions::new().append(true).open(folder.0.join(words[2])).unwrap().write_all(b"\0").unwrap();
+        std::io::copy(&mut child.stdout.take().unwrap(), &mut std::io::sink()).unwrap();
+        let output = child.wait_with_output().unwrap();
+        let told = format!("cqdb: {}: {} changed while it was read: its size or time is another\n", words[0], words[2]);
+        assert_eq!((String::from_utf8_lossy(&output.stderr).as_ref(), output.status.code()), (told.as_str(), Some(2)));
+    }
+}
+
 /// Names that are all equal take time that grows with the square of their number: that is said.
 #[test]
 fn many_equal_names() {

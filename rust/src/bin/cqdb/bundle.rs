@@ -4,7 +4,7 @@ use std::path::Path;
 use cqdb::{Bundle, Refusal};
 
 use crate::args::{Args, Command};
-use crate::files::{self, Source};
+use crate::files::{self, Reading, Source};
 use crate::kind::{self, Images, Kind};
 use crate::lines;
 use crate::outcome::{self, Answer, Failure, Outcome, Output};
@@ -102,10 +102,10 @@ fn joined(path: &Path, old: &[u8], images: &[(String, &[u8])]) -> Result<(Vec<u8
 }
 
 fn list(path: &Path) -> Outcome {
-    let file = files::read(path)?;
+    let file = Reading::of(path)?;
     let mut out = Output::new();
     let mut all = true;
-    for (position, image) in Bundle::new(&file).iter().enumerate() {
+    for (position, image) in Bundle::new(file.bytes()).iter().enumerate() {
         match image {
             Ok(db) => out.text(&format!("{position} {} {}", db.num(), db.bytes().len()))?,
             Err(Refusal::BrokenBundle) => return Err(refused(path, Refusal::BrokenBundle)),
@@ -115,6 +115,7 @@ fn list(path: &Path) -> Outcome {
             }
         }
     }
+    file.has_stayed()?;
     out.finish(all)
 }
 
@@ -122,15 +123,19 @@ fn extract(args: &Args) -> Outcome {
     let path = args.path(1);
     let position = lines::id_of(args.bytes(2)).ok_or_else(|| Failure::new("the position is no decimal number"))?;
     let target = Target::new(args, 3, Kind::Image)?;
-    let file = files::read(path)?;
-    match Bundle::new(&file).open(position.into()) {
+    let file = Reading::of(path)?;
+    match Bundle::new(file.bytes()).open(position.into()) {
         Ok(db) => {
             let (entries, size) = (outcome::count(db.num().into(), "entry", "entries"), db.bytes().len());
-            target.replace(db.bytes(), &format!("{}: {entries}, {size} bytes\n", args.path(3).display()))?;
+            let mut image = Vec::new();
+            outcome::reserve(&mut image, size, || path.display().to_string())?;
+            image.extend_from_slice(db.bytes());
+            file.has_stayed()?;
+            target.replace(&image, &format!("{}: {entries}, {size} bytes\n", args.path(3).display()))?;
             Ok(Answer::Yes)
         }
         Err(Refusal::NoSuchImage) => {
-            let images = Bundle::new(&file).count().map_err(|refusal| refused(path, refusal))?;
+            let images = Bundle::new(file.bytes()).count().map_err(|refusal| refused(path, refusal))?;
             let (shown, images) = (files::shown(path), outcome::count(images, "image", "images"));
             let refusal = Refusal::NoSuchImage.number();
             outcome::tell(&format!(

@@ -110,6 +110,38 @@ impl State {
     }
 }
 
+/// The bytes of a file, which is seen to stay as it was.
+pub struct Reading {
+    path: PathBuf,
+    bytes: Bytes,
+    opened: Option<(File, Option<State>)>,
+}
+
+impl Reading {
+    /// Of a file, or of standard input, which is read whole.
+    pub fn of(path: &Path) -> Result<Reading, Failure> {
+        if path == Path::new("-") {
+            return Ok(Reading { path: path.to_owned(), bytes: read(path)?, opened: None });
+        }
+        let file = File::open(path).map_err(|error| cannot_read(path, error))?;
+        let before = State::of(&file).map_err(|error| cannot_read(path, error))?;
+        let bytes = bytes_of(&file, path)?;
+        Ok(Reading { path: path.to_owned(), bytes, opened: Some((file, before)) })
+    }
+
+    pub fn bytes(&self) -> &Bytes {
+        &self.bytes
+    }
+
+    /// Fails where the file was written to since it was opened.
+    pub fn has_stayed(&self) -> Result<(), Failure> {
+        match &self.opened {
+            Some((file, before)) => State::has_stayed(before, file, &shown(&self.path)),
+            None => Ok(()),
+        }
+    }
+}
+
 /// A file that images are asked for: all of it, or the image at a position of a bundle, as `BUNDLE:1` says.
 pub struct Source {
     path: PathBuf,

@@ -4,7 +4,7 @@ use std::path::Path;
 use cqdb::Sheet;
 
 use crate::args::{Args, Command, WINDOWS};
-use crate::files::{self, Bytes};
+use crate::files::{self, Bytes, Reading};
 use crate::input::INCOMPLETE;
 use crate::kind::Kind;
 use crate::lines::{self, Lines};
@@ -44,14 +44,15 @@ pub fn sheet_of<'a>(path: &Path, bytes: &'a Bytes) -> Result<Sheet<'a>, Failure>
 }
 
 fn show(path: &Path) -> Outcome {
-    let bytes = files::read(path)?;
-    let sheet = sheet_of(path, &bytes)?;
+    let file = Reading::of(path)?;
+    let sheet = sheet_of(path, file.bytes())?;
     let mut out = Output::new();
     for (kind, ids) in KINDS.into_iter().zip([sheet.references(), sheet.walls(), sheet.retired()]) {
         for id in ids {
             out.text(&format!("{kind} {id}"))?;
         }
     }
+    file.has_stayed()?;
     out.finish(Answer::Yes)
 }
 
