@@ -58,7 +58,7 @@ impl Kept {
             (Some(position), _) => self.at(position),
             (None, Images::One) => Ok(self.bytes()),
             (None, Images::Several(images)) => Err(Failure::new(format!(
-                "{path} is a bundle of {images} images: {path}:0 to {path}:{} name them; --all asks of every image",
+                "{path} is a bundle of {images} images: {path}:0 to {path}:{} name them",
                 images - 1
             ))),
             (None, Images::Broken) => Err(self.refused(Refusal::BrokenBundle)),
