@@ -325,7 +325,9 @@ impl Run {
         } else {
             let size = answer.size as usize;
             self.tally.rule(archive::open(&buf[..size]).num, answer.accepted, || format!("{answer:?}"));
-            self.tally.bytes(&buf[size..], &first[size..], || "the bytes behind a list's image".into());
+            let joined = ends.last().map_or(0, |end| *end as usize);
+            let all = (archive::build_needs(mode, joined, &ids[..n]).bytes as usize).clamp(size, room);
+            self.tally.bytes(&buf[all..], &first[all..], || "the bytes behind an image of all names".into());
         }
         self.refused += u64::from(answer.refusal > 0);
         self.calls += 1;
