@@ -1,6 +1,6 @@
 // A whole round for C, in both directions. The answers lie in words, four to an answer, as the structs of
 // include/cqdb.h do. A crate of its own, as lookup_c is: the compiler inlines a large function that has one caller, and
-// a lookup takes 3 to 18 % less time so (docs/DECISIONS.md, "Why several export crates?").
+// a round takes 4 % less time so (docs/DECISIONS.md, "Why several export crates?").
 use batch::Rounded;
 ghost use mathlib.Core.Path.{_≡_};
 ghost use Prim.Native.Nat.{_/_};

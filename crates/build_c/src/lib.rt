@@ -1,5 +1,5 @@
-// A whole list in one call, for C. It is compiled by itself, so that put and close have one caller each in cqdb_c and
-// are inlined there.
+// A whole list in one call, for C. A crate of its own for the time of a check: it takes 26 s, and a must-fail edit of
+// cqdb_c or lists_c would take that, too (docs/DECISIONS.md, "Why several export crates?").
 use build::Built;
 use jhash::refusals::UNFIT;
 use writer::numbers::mode_of;
