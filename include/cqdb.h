@@ -29,8 +29,10 @@
    What the calls cost. The times are those of one run of `bench/run costs` on an AMD EPYC, in ns, with names of 9 bytes, for
    4,096 and for 100,000 entries; rows that were measured once have the first number alone. Calls on images that exceed the
    processor's caches take longer (docs/BENCHMARKS.md has 1,000,000 entries). A put with repeats off takes a put's time and that
-   of each earlier entry, so cqdb_put_indexed or cqdb_build is for long lists. The stack is rounded up, in KB of 1,024 bytes;
-   calls without a number take less than 1 KB.
+   of each earlier entry, so cqdb_put_indexed or cqdb_build is for long lists. In a forged image many buckets or ids may lead to
+   one long name: there cqdb_to_id, cqdb_round, cqdb_home, cqdb_moved, cqdb_readings_agree and cqdb_next_change may take time that
+   grows with the square of its bytes; in an image that cqdb_canonical accepts they are linear in them. The stack is rounded up, in
+   KB of 1,024 bytes; calls without a number take less than 1 KB.
 
      call                            time for each                            4,096   100,000   stack
      average                         entry                                       23        41       2
@@ -124,9 +126,10 @@ extern "C" {
 #define CQDB_TOO_SHORT 1u        /* begin, open, load, build: under 2,072 bytes */
 #define CQDB_UNFIT 2u            /* begin, put, close, grown, build, put_indexed, index: the writer does not fit the buffer, or mode or
                                     repeats is neither 0 nor 1; put_indexed looks at length, end and one count */
-#define CQDB_NO_ROOM 3u          /* put, bundle_append, put_indexed: the image would exceed the buffer; puts: or 4,294,967,295 bytes */
-#define CQDB_INCONSISTENT 4u     /* put, close, index: the buffer's entries are not the writer's (put asks with repeats off only), or
-                                    the image that close would write is too large */
+#define CQDB_NO_ROOM 3u          /* put, bundle_append, put_indexed: image or bundle would exceed the buffer; puts: or 4,294,967,295
+                                    bytes */
+#define CQDB_INCONSISTENT 4u     /* put, close, index: the buffer's entries are not the writer's (put asks with repeats off only);
+                                    close and index: or the image that close would write is too large */
 #define CQDB_WRONG_LETTERS 5u    /* open, bundle_open: the image does not begin with the letters CQDB */
 #define CQDB_WRONG_BYTE_ORDER 6u /* open, bundle_open: the word at 12, which shows the byte order, is wrong */
 #define CQDB_TABLE_LEAVES 7u     /* open, bundle_open: a table with an offset above 0 leaves the image */
@@ -148,7 +151,8 @@ extern "C" {
 #define CQDB_NOT_BEFORE_END 23u  /* name_on, preflight_dates: a window does not start before its end */
 #define CQDB_INDEX_FULL 24u      /* put_indexed, index: every slot is taken, or there are more entries than slots */
 
-/* What a refusal's number means, in the words of the Rust crate and of the Python module. */
+/* What a refusal's number means, in the words of the Rust crate and of the Python module. The text of 1 speaks of a file, also
+   where a call was refused because its buffer is too short. */
 static inline const char *cqdb_refusal_text(uint32_t refusal) {
     switch (refusal) {
     case 0: return "accepted";
@@ -223,8 +227,8 @@ typedef struct {
     uint32_t offset;
 } cqdb_id_answer;
 
-/* The id of a name and where its entry stands (those of its first put). Never refused: a damaged image or a name too long for a
-   hash gives nothing. */
+/* The id of a name and where its entry stands (those of its first put). Never refused: a name that is not there or is too long for
+   a hash gives nothing, and so does what cannot be read. A damaged image may also give another id: see cqdb_canonical. */
 cqdb_id_answer cqdb_to_id(const uint8_t *image, size_t len, const uint8_t *name, size_t name_len);
 
 /* The same of a name that is a C string. */
@@ -240,7 +244,8 @@ typedef struct {
     uint64_t start;
 } cqdb_str_answer;
 
-/* The place of an id's name (of its last put). Never refused: a one-way or damaged image gives nothing. */
+/* The place of an id's name (of its last put). Never refused: an id without a name gives nothing, and so do a one-way image and
+   what cannot be read. A damaged image may also give another name: see cqdb_canonical. */
 cqdb_str_answer cqdb_to_str(const uint8_t *image, size_t len, uint32_t id);
 
 /* The same place up to the name's first zero byte, as a C string is read; all of it where the name has none. A name that
@@ -251,8 +256,8 @@ cqdb_str_answer cqdb_panel(const uint8_t *image, size_t len, uint32_t id);
    every list of calls from a begin, and where no back array can be read; it may be 0 for images made elsewhere. */
 uint32_t cqdb_readings_agree(const uint8_t *image, size_t len);
 
-/* A walk calls cqdb_to_str for the ids from 0 on and ends at the first that has no name. This is the largest number of
-   steps that a walk before the id `next` has left: back size minus next, at least 0; 0 where no back array can be read. */
+/* A walk calls cqdb_to_str for the ids from 0 on and ends at the first that has no name. This bounds the steps that it still
+   has to take when `next` is its next id: back size minus next, at least 0; 0 where no back array can be read. */
 uint32_t cqdb_size_hint(const uint8_t *image, size_t len, uint32_t next);
 
 /* 1 when the id has a name and some entry that the search for that name meets has this name and this id, else 0. For this
@@ -461,7 +466,7 @@ static inline cqdb_close_answer cqdb_close(const cqdb_writer *w, uint8_t *buf, s
 
 /* How many words to lend for so many names: 4 for each, so that the index is half full at the end; 2^64 - 1 where that is more
    than a size can be. An index of n words, an odd last one apart, has room for n / 2 names. The fuller it gets the longer a put
-   takes: with 2 words for each name, nearly nine times as long at 100,000. */
+   takes: with 2 words for each name, some nine times as long at 100,000. */
 size_t cqdb_index_words(size_t names);
 
 /* The archive exports cqdb_index_parts and cqdb_put_indexed_parts, which cqdb_index and cqdb_put_indexed call. They take the writer in
@@ -486,10 +491,10 @@ static inline uint32_t cqdb_index(const cqdb_writer *w, const uint8_t *buf, size
 
    By any other words, and with any writer, it gives the first that applies: 2 when the writer's mode, repeats, length or end does
    not fit the buffer; 13 when the name has a zero byte; 3 for a name of 4,294,967,295 bytes or more; 16 when repeats are off and
-   a slot, before the first empty one from slot (hash / 256) modulo (n / 2) on, has the name's hash and the offset of an entry of
-   this name before w->end; 3 when the finished size is too large, as in cqdb_put; 2 when the count of the name's table cannot be
-   raised; 24 when repeats are off and no slot is empty; else 0. Other counts and other entries are not looked at: where cqdb_put
-   gives 2 or 4 for them, this may give 0. */
+   a slot, before the first empty one from slot (hash / 256) modulo (n / 2) on and around, has the name's hash and the offset of
+   an entry of this name before w->end; 3 when the finished size is too large, as in cqdb_put; 2 when the count of the name's table
+   is 4,294,967,295; 24 when repeats are off and no slot is empty; else 0. Other counts and other entries are not looked at: where
+   cqdb_put gives 2 or 4 for them, this may give 0. */
 static inline uint32_t cqdb_put_indexed(cqdb_writer *w, uint8_t *buf, size_t len, uint32_t *slots, size_t n,
                                         const uint8_t *name, size_t name_len, uint32_t id) {
     return cqdb_put_indexed_parts(&w->mode, &w->length, w->counts, buf, len, slots, n, name, name_len, id);
@@ -529,12 +534,12 @@ cqdb_build_answer cqdb_build_parts(uint32_t mode, uint32_t repeats, uint8_t *buf
    - The buffer has room for all names, none has a zero byte, and with repeats off all differ: linear, and no word is needed
      up to 4,608 names of one table, some 1,100,000 in all. The image is written straight into the buffer. With more names
      some words are needed, two for each name of the largest table, or else the tables are filled name by name: 1,500,000 names
-     then take four times as long.
+     then take four to five times as long.
    - A name is refused: the names are put one by one from the beginning. With 5n words that is linear, apart from names that
      come often (below), and takes some three times as long as the list without it up to 100,000 names, six times at 1,000,000. Each
      put looks into an index of the names. There is an index from 2n words on, but the fuller it gets the more slots a put reads:
-     with 2n words 100,000 names took 4.6 times as long as with 4n. With fewer it is quadratic where
-     repeats are off, since each put walks the entries before it: 16,000 names took 0.6 s.
+     with 2n words 100,000 names took five to six times as long as with 4n. With fewer it is quadratic where repeats are off,
+     since each put walks the entries before it: 16,000 names took 0.6 s.
    - A name that is put k times costs k * k / 2 reads of buckets, whatever is lent, with repeats on as in cqdb_close, and with
      repeats off too, since the image of all names is tried first: equal names have one probe sequence in their table. 64,000 puts of one
      name took 1.8 s with either choice. */
@@ -734,10 +739,11 @@ cqdb_moved_answer cqdb_moved(const uint8_t *old_image, size_t old_len, const uin
     7  the old image is canonical and two-way
     8  the old and the new image name at least one id alike, sighted or not
     9  each id of the round that the old image names has the same name in the new one, unless it is accepted
-   10  no id, of any number, whose old name a sighted id has now, has lost it. What is accepted does not matter Both calls take
-   any bytes and change nothing; a sheet that does not read is question 2, with its refusal. Their time grows with the bytes of
-   the images, with the round times the sheet, and with the square of the round; that of cqdb_preflight also with the round times
-   the ids that lost their name, and with the renamed ids of the round times the accepted ones. */
+   10  no sighted id has now the old name of an id, of any number, that has lost it; what is accepted does not matter
+
+   Both calls take any bytes and change nothing; a sheet that does not read is question 2, with its refusal. Their time grows with
+   the bytes of the images, with the round times the sheet, and with the square of the round; that of cqdb_preflight also with the
+   round times the ids that lost their name, and with the renamed ids of the round times the accepted ones. */
 
 /* What a report rests on. A list without elements may have a null pointer and length 0. */
 typedef struct {
