@@ -8,6 +8,7 @@ use mathlib.Core.Bool.{cond, _&&_}
 use mathlib.Core.List.{List, [], _∷_, _++_}
 use lib.ListN.{length}
 use lib.Dec.{eqb}
+use Rattle.jhash.specs.Refusals as refused
 use Rattle.image.specs.declared.Mode.{Mode}
 use Rattle.image.specs.declared.Mode.the-variants.{Twoway, Oneway}
 use Rattle.image.specs.Image.{Entry, backSize, backIn, containsName}
@@ -74,9 +75,9 @@ sizeOf mode es = 2072 + putsSize es + 4 * backIn mode (backSize es)
 -- size, which counts the put at hand, exceeds either limit. 0: none
 unfoldable pub putDue : Mode → Repeats → ℕ → List Entry → Entry → ℕ
 putDue mode repeats n es e =
-    cond (hasZero (e .name)) 13
-    (cond (containsName (e .name) es && refusesRepeats repeats) 16
-    (cond (tooLarge n (sizeOf mode (es ++ (e ∷ [])))) 3 0))
+    cond (hasZero (e .name)) refused.zeroByte
+    (cond (containsName (e .name) es && refusesRepeats repeats) refused.repeated
+    (cond (tooLarge n (sizeOf mode (es ++ (e ∷ [])))) refused.noRoom 0))
 
 -- the refusal that is due to a call: none to a close
 abbrev pub dueTo : Mode → Repeats → ℕ → List Entry → Call → ℕ
@@ -106,7 +107,7 @@ due mode repeats n cs = dueFrom mode repeats n [] cs
 -- no call of a list gives 2 or 4, and no close is refused there: a put may be answered by 0, 13, 16 or 3, a close by
 -- 0, and there is one answer for each call
 abbrev pub Permitted : Call → ℕ → Type 0
-Permitted (put e) r = (r ≡ 0) ⊎ ((r ≡ 13) ⊎ ((r ≡ 16) ⊎ (r ≡ 3)))
+Permitted (put e) r = (r ≡ 0) ⊎ ((r ≡ refused.zeroByte) ⊎ ((r ≡ refused.repeated) ⊎ (r ≡ refused.noRoom)))
 Permitted close r = r ≡ 0
 
 abbrev pub AllPermitted : List Call → List ℕ → Type 0

@@ -7,6 +7,7 @@ use mathlib.Core.List.{List, [], _∷_, _++_}
 use lib.ListN.{length, take, drop}
 use lib.Dec.{ltb}
 use Rattle.jhash.specs.Outcome.{value, refusal}
+use Rattle.jhash.specs.Refusals as refused
 use Rattle.image.specs.declared.Mode.the-variants.{Twoway}
 use Rattle.image.specs.Image.{Entry, headSize}
 use Rattle.writer.specs.declared.Repeats.the-variants.{On}
@@ -49,7 +50,7 @@ pub record LoadHolds (seed : ℕ) (buffer : List ℕ) (k : ℕ) : Type 0 where
   -- the bytes behind the image keep their content
   pub kept : drop (headSize + 38 * k) (afterLoad seed buffer) ≡ drop (headSize + 38 * k) buffer
   -- until 4,096 are accepted or one is refused: where fewer are, the next one has no room
-  pub stops : k < 4096 → putRefusal (loadPut seed buffer) (loadEntry seed k) ≡ 3
+  pub stops : k < 4096 → putRefusal (loadPut seed buffer) (loadEntry seed k) ≡ refused.noRoom
 
 pub record Rebuilt : Type 0 where
   -- a state is below 2^32, and its eight digits read back as the state

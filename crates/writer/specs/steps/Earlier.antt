@@ -4,6 +4,7 @@ use mathlib.Core.Bool.{Bool, cond, not}
 use mathlib.Core.List.{List}
 use lib.ListN.{length, getD}
 use lib.Dec.{eqb}
+use Rattle.jhash.specs.Refusals as refused
 use Rattle.image.specs.Bytes.{all}
 use Rattle.image.specs.Image.{containsName}
 use Rattle.writer.specs.declared.CQDBWriter.{CQDBWriter}
@@ -17,7 +18,8 @@ pub record EndInside (w : CQDBWriter) (buf : List ℕ) : Type 0 where
 
 -- what a walk over them gives: 4 where it fails close's checks, otherwise 16 where it meets the name, 0 for neither
 unfoldable pub walkRefusal : State → List ℕ → ℕ
-walkRefusal s name = cond (not (consistent s)) 4 (cond (containsName name (recorded s)) 16 0)
+walkRefusal s name =
+    cond (not (consistent s)) refused.inconsistent (cond (containsName name (recorded s)) refused.repeated 0)
 
 -- with repeats on there is no walk
 unfoldable pub earlierRefusal : State → List ℕ → ℕ
