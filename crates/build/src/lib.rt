@@ -17,7 +17,7 @@ use jhash::refusals::ANSWERS_TOO_FEW;
 use jhash::refusals::ROUND_UNFIT;
 use jhash::refusals::TOO_SHORT;
 use packed::invalid_ends;
-use singly::index_words;
+use singly::scratch_for_index;
 use singly::put_list;
 use stored::write_list;
 use writer::CQDBWriter;
@@ -85,7 +85,7 @@ fn build_singly(
         (now (refusals .entry)) r (now (buf .exit)) (now (refusals .exit))
         ⌝ }
 {
-    let words = index_words(repeats, ends.len(), scratch.len());
+    let words = scratch_for_index(repeats, ends.len(), scratch.len());
     let slots = &mut scratch[..words];
     clear_words(&mut *slots, words);
     let mut counts = [0; 256];

@@ -23,10 +23,8 @@ use Rattle.lists.proofs.ListWritten.{Written}
 use Rattle.lists.proofs.ListPuts.{fresh-written}
 use Rattle.lists.proofs.ListCloses.{close-accepted, close-written}
 use Rattle.lists.proofs.WrittenRecord.{written-recorded}
-use Rattle.index.specs.Index.{slotCount, entryBuckets, FilledWith, Right}
-use Rattle.index.specs.steps.Part.{PartIndex, partBuckets}
+use Rattle.index.specs.Index.{slotCount, entryBuckets, Right}
 use Rattle.index.specs.theorems.KeptRight.{KeptRight}
-use Rattle.index.proofs.EntryNames.{length-part, part-none}
 use Rattle.index.proofs.RightAfterPut.{right-written}
 use Rattle.index.proofs.Insert.{same-slot}
 
@@ -63,20 +61,6 @@ right-any mode buffer words room =
       tables = w .tables;
       capacity = λ off. absurd (false-not-true off);
       slots = λ off. absurd (false-not-true off);
-    }
-
--- and an index of some tables
-pub part-fresh : (from : ℕ) (mode : Mode) (repeats : Repeats) (buffer words : List ℕ) → headSize ≤ length buffer → ((i : ℕ) → getD words i 0 ≡ 0)
-    → PartIndex from (fresh mode repeats buffer) words
-part-fresh from mode repeats buffer words room clear =
-    let right = right-fresh mode repeats buffer words room clear in
-    let none = fresh-holds-none mode repeats buffer room in
-    record {
-      capacity = λ off. omega (arith, length-part from (recorded (fresh mode repeats buffer)), ap length none);
-      slots = λ off.
-          subst (FilledWith words)
-          (ap entryBuckets none ∙ sym (part-none from) ∙ ap (partBuckets from) (sym none))
-          (right .slots off);
     }
 
 -- where the entries stand in a longer buffer
