@@ -20,38 +20,19 @@ use Rattle.index.specs.Index.{slotCount, Right, indexRefusal}
 use Rattle.index.specs.Promise.{Indexed}
 use Rattle.index.specs.steps.Fill.{FillPre, SlotsFilled}
 
-module _ (s : State) (words : List ℕ) (r : ℕ) (answer : r ≡ closeRefusal s) where
-  pub index-refused : (r ≡ 0 → ⊥) → Indexed s words r words
+module _ (s : State) (words : List ℕ) where
+  -- a refusal leaves the words
+  unchanged : {k : ℕ} → k ≡ indexRefusal s words → (k ≡ 0 → ⊥) → Indexed s words k words
+  unchanged is some = record { answer = is; refused = λ z. refl; right = λ z. absurd (some z); long = refl; last = λ i h. refl }
+
+  pub index-refused : (r : ℕ) → r ≡ closeRefusal s → (r ≡ 0 → ⊥) → Indexed s words r words
   unfolding indexRefusal
-  index-refused n =
-      record {
-        answer = is;
-        refused = λ z. refl;
-        right = λ z. absurd (n z);
-        long = refl;
-        last = λ i h. refl;
-      }
-    where
-      is : r ≡ indexRefusal s words
-      is = rw (ne-eqb (closeRefusal s) 0 (λ z. n (answer ∙ z))) answer
+  index-refused r answer some = unchanged (rw (ne-eqb (closeRefusal s) 0 (λ z. some (answer ∙ z))) answer) some
 
-  module _ (none : r ≡ 0) where
-    closes : closeRefusal s ≡ 0
-    closes = sym answer ∙ none
-
+  module _ (closes : closeRefusal s ≡ 0) where
     pub index-full : slotCount words < s .writer .entries → Indexed s words 24 words
     unfolding indexRefusal
-    index-full l =
-        record {
-          answer = is;
-          refused = λ z. refl;
-          right = λ z. absurd (omega (arith, z));
-          long = refl;
-          last = λ i h. refl;
-        }
-      where
-        is : 24 ≡ indexRefusal s words
-        is = rw (eq-eqb (closeRefusal s) 0 closes, lt-ltb (slotCount words) (s .writer .entries) l) refl
+    index-full l = unchanged (rw (eq-eqb (closeRefusal s) 0 closes, lt-ltb (slotCount words) (s .writer .entries) l) refl) (λ z. omega (arith, z))
 
     -- cleared, then filled with the entries
     module _ (cleared words′ : List ℕ) (long : length cleared ≡ length words) (last : (i : ℕ) → 2 * slotCount words ≤ i → getD cleared i 0 ≡ getD words i 0)

@@ -10,6 +10,5 @@ pub mod PutLeaves
 pub mod FillSlots
 pub mod IndexRefusals
 pub mod RightKept
-pub mod PutResults
 pub mod PlainLists
 pub mod ListsByIndex
