@@ -30,8 +30,7 @@ use Rattle.index.specs.theorems.ListsByIndex.{Step, call, grow, anew, ca
 use Rattle.index.specs.theorems.ListsByIndex.{Plain, plainAfter, plainFrom, Enough, NoneFull, RunByIndex, RunOfCalls, ListsByIndex}
 use Rattle.index.proofs.Insert.{length-stored}
 use Rattle.index.proofs.PlainLists.{cons, more, Left, left-written, left-call, left-grown}
-use Rattle.index.proofs.RightAfterPut.{right-written}
-use Rattle.index.proofs.RightKept.{right-moved}
+use Rattle.index.proofs.RightKept.{right-written, right-moved}
 
 -- ---- one put
 

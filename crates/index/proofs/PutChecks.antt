@@ -1,28 +1,66 @@
--- What the checks of a put come to, for whatever slots are lent. Assumes nothing.
+-- What the checks of a put come to, for whatever is lent. Assumes nothing.
 use Prim.Native.Nat.{ℕ, _+_, _^_, _≤_, _<_}
 use native.Mathlib.Omega.{arith}
 use native.Mathlib.Decide.{ℕ-discrete}
 use mathlib.Core.Path.{_≡_, refl, sym, ap, _∙_}
-use mathlib.Core.Bool.{Bool, true, false, cond}
+use mathlib.Core.Bool.{Bool, true, false, cond, not}
 use mathlib.Core.List.{List}
-use borrow.Author.Tests.{eq-eqb, ne-eqb, lt-ltb, le-ltb}
+use borrow.Author.Tests.{eq-eqb, ne-eqb, lt-ltb, le-ltb, ltb-false}
 use lib.Dec.{eqb, ltb}
-use lib.ListN.{length, take}
+use lib.ListN.{length, take, getD}
 use Rattle.jhash.specs.NameHash.{hashOf}
 use Rattle.image.specs.Image.{Entry}
+use Rattle.image.specs.Tables.{tableOf}
+use Rattle.image.specs.Zero.{hasZero}
 use Rattle.image.proofs.Bools.{false-not-true}
 use Rattle.writer.specs.declared.CQDBWriter.{CQDBWriter}
-use Rattle.writer.specs.State.{State, finishedSize, tooLarge}
+use Rattle.writer.specs.State.{State, finishedSize, tooLarge, inBuffer}
 use Rattle.writer.specs.Put.{writerAfterPut}
 use Rattle.writer.specs.steps.Storing.{AppendPre}
-use Rattle.writer.proofs.Fits.{not-too-large}
+use Rattle.writer.proofs.Fits.{not-too-large, InBuffer, buffer-of}
+use Rattle.writer.proofs.Closes.{accepted}
 use Rattle.index.specs.declared.Decision.{Decision}
 use Rattle.index.specs.Index.{slotCount, firstEmptySlot, seeks}
 use Rattle.index.specs.Probe.{hasNameAt}
-use Rattle.index.specs.Refusals.{earlyOf, lateOf, probedFor, refusalAfter, refusalBySlots}
+use Rattle.index.specs.Refusals.{earlyOf, lateOf, probedFor, refusalAfter, refusalBySlots, earlyRefusal, lateRefusal}
 use Rattle.index.specs.steps.Decided.{WithoutSlot, InBounds, Decided}
 use Rattle.index.proofs.Probing.{probe-first}
-use Rattle.index.proofs.PutRefusals.{EarlyPassed, LatePassed}
+
+-- ---- what a check that is passed says
+
+-- the checks before the search
+pub record EarlyPassed (w : CQDBWriter) (buf name : List ℕ) : Type 0 where
+  pub buffer : InBuffer w buf
+  pub short : length name < 4294967295
+
+pub early-passed : (w : CQDBWriter) (buf name : List ℕ) → earlyRefusal w buf name ≡ 0 → EarlyPassed w buf name
+unfolding earlyRefusal
+early-passed w buf name h = by-checks (inBuffer w buf) (hasZero name) (ltb 4294967294 (length name)) refl refl h
+  where
+    by-checks : (b z l : Bool) → inBuffer w buf ≡ b → ltb 4294967294 (length name) ≡ l → _≡_ {A = ℕ} (cond (not b) 2 (cond z 13 (cond l 3 0))) 0
+        → EarlyPassed w buf name
+    by-checks true false false p q h = let long = ltb-false 4294967294 (length name) q in record { buffer = buffer-of w buf p; short = omega (arith, long) }
+    by-checks true false true p q h = absurd (omega arith)
+    by-checks true true l p q h = absurd (omega arith)
+    by-checks false z l p q h = absurd (omega arith)
+
+-- those after it
+pub record LatePassed (w : CQDBWriter) (counts : List ℕ) (n id h : ℕ) : Type 0 where
+  pub fine : tooLarge (w .length) (finishedSize (writerAfterPut w n id)) ≡ false
+  pub count : getD counts (tableOf h) 0 < 4294967295
+
+pub late-passed : (w : CQDBWriter) (counts : List ℕ) (n id h : ℕ) → lateRefusal w counts n id h ≡ 0 → LatePassed w counts n id h
+unfolding lateRefusal
+late-passed w counts n id h e =
+    by-checks (tooLarge (w .length) (finishedSize (writerAfterPut w n id))) (ltb 4294967294 (getD counts (tableOf h) 0)) refl refl e
+  where
+    by-checks : (t c : Bool) → tooLarge (w .length) (finishedSize (writerAfterPut w n id)) ≡ t → ltb 4294967294 (getD counts (tableOf h) 0) ≡ c
+        → _≡_ {A = ℕ} (cond t 3 (cond c 2 0)) 0 → LatePassed w counts n id h
+    by-checks false false p q e =
+        let small = ltb-false 4294967294 (getD counts (tableOf h) 0) q in
+        record { fine = p; count = omega (arith, small) }
+    by-checks false true p q e = absurd (omega arith)
+    by-checks true c p q e = absurd (omega arith)
 
 -- an entry whose image has room has room
 entry-room : (w : CQDBWriter) (n id len : ℕ) → w .length ≡ len → tooLarge (w .length) (finishedSize (writerAfterPut w n id)) ≡ false → w .end + (n + 9) ≤ len

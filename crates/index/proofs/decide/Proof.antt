@@ -16,8 +16,7 @@ use Rattle.index.specs.Index.{slotCount, seeks}
 use Rattle.index.specs.Probe.{hasNameAt, probeSlots}
 use Rattle.index.specs.Refusals.{lateRefusal, earlyOf, lateOf, probedFor, refusalBySlots}
 use Rattle.index.specs.steps.Decided.{WithoutSlot, Decided}
-use Rattle.index.proofs.PutRefusals.{EarlyPassed, early-passed, late-passed}
-use Rattle.index.proofs.PutChecks.{append-pre, slots-early, search-duplicate, search-late, search-slot, search-end}
+use Rattle.index.proofs.PutChecks.{EarlyPassed, early-passed, late-passed, append-pre, slots-early, search-duplicate, search-late, search-slot, search-end}
 use borrow.Author.Needs.{needs}
 use Rattle.index.proofs.decide.Statement.{statement}
 use Rattle.index.proofs.decide.Tie as tie

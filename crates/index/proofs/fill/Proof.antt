@@ -5,7 +5,7 @@ use mathlib.Core.Path.{sym, subst}
 use denote.Ref.{now}
 use Rattle.jhash.proofs.Outcomes.{result-refused, result-name-hash}
 use Rattle.image.proofs.Between.{entry-room}
-use Rattle.index.proofs.FillSlots.{Filling, EntryRead, filling-start, not-broken, empty-slot, filling-turn, filling-end}
+use Rattle.index.proofs.MakeIndex.{Filling, EntryRead, filling-start, not-broken, empty-slot, filling-turn, filling-end}
 use borrow.Author.Needs.{needs}
 use Rattle.index.proofs.fill.Statement.{statement}
 use Rattle.index.proofs.fill.Tie as tie

@@ -3,7 +3,7 @@ use native.Mathlib.Omega.{arith}
 use mathlib.Core.Path.{_≡_, sym, _∙_}
 use Rattle.writer.specs.State.{State, stateWith}
 use Rattle.writer.specs.Close.{closeRefusal}
-use Rattle.index.proofs.IndexRefusals.{index-refused, index-full, index-made, fillable}
+use Rattle.index.proofs.MakeIndex.{index-refused, index-full, index-made, fillable}
 use borrow.Author.Needs.{needs}
 use Rattle.index.proofs.index.Statement.{statement}
 use Rattle.index.proofs.index.Tie as tie

@@ -7,7 +7,7 @@ use Rattle.writer.specs.State.{stateWith}
 use Rattle.writer.specs.Put.{entryOf}
 use Rattle.index.specs.steps.Decided.{InBounds}
 use Rattle.index.proofs.PutChecks.{end-word}
-use Rattle.index.proofs.PutLeaves.{put-refused, put-accepted}
+use Rattle.index.proofs.PutPromise.{put-refused, put-accepted}
 use borrow.Author.Needs.{needs}
 use Rattle.index.proofs.put_indexed.Statement.{statement}
 use Rattle.index.proofs.put_indexed.Tie as tie

@@ -1,10 +1,11 @@
--- What is due to a put in the order of its checks: what a check that is passed says, and the refusal by a right index. Assumes nothing.
-use Prim.Native.Nat.{ℕ, _≤_, _<_}
+-- The promise of a put by the index: by a right index its refusal is the rule's; refused it leaves all as it was, accepted it leaves the entry, its
+-- count and its slot. Assumes nothing.
+use Prim.Native.Nat.{ℕ, _≤_, _<_, _^_}
 use native.Mathlib.Omega.{arith}
-use mathlib.Core.Path.{_≡_, refl, sym, ap, _∙_}
+use mathlib.Core.Path.{_≡_, refl, sym, ap, _∙_, ap₂, subst}
 use mathlib.Core.Bool.{Bool, true, false, cond, not, _&&_}
 use mathlib.Core.List.{List}
-use borrow.Author.Tests.{le-ltb, ltb-true, ltb-false, eqb-true, eqb-false, leb-false}
+use borrow.Author.Tests.{le-ltb, ltb-true, eqb-false, leb-false, eq-eqb, ne-eqb, lt-ltb}
 use lib.Dec.{eqb, leb, ltb}
 use lib.ListN.{length, getD}
 use Rattle.jhash.specs.NameHash.{hashOf}
@@ -15,52 +16,19 @@ use Rattle.image.proofs.Bools.{and-first, false-not-true}
 use Rattle.image.proofs.EntryArea.{AllBytes}
 use Rattle.writer.specs.declared.CQDBWriter.{CQDBWriter}
 use Rattle.writer.specs.State.{State, noneAbove, inBuffer, fits, finishedSize, tooLarge}
-use Rattle.writer.specs.Put.{writerAfterPut, writerAfterEntry, repeated, putRefusal}
+use Rattle.writer.specs.Put.{writerAfterEntry, repeated, putRefusal, appended}
 use Rattle.writer.specs.Close.{recorded}
-use Rattle.writer.proofs.Fits.{InBuffer, buffer-of}
 use Rattle.writer.proofs.Closes.{Accepted, accepted}
 use Rattle.writer.proofs.Puts.{long-name, count-small}
-use Rattle.index.specs.Index.{slotCount, seeks, Right, indexedRefusal}
+use Rattle.index.specs.Index.{slotCount, seeks, Right, indexedRefusal, slotStored, slotInserted, firstEmptySlot, slotsAfter, afterIndexed}
 use Rattle.index.specs.Refusals.{earlyRefusal, lateRefusal, earlyOf, lateOf, probedFor, refusalBySlots}
+use Rattle.index.specs.declared.Decision.{Decision}
+use Rattle.index.specs.Promise.{PutIndexed}
+use Rattle.index.specs.steps.Decided.{Decided, InBounds}
 use Rattle.index.proofs.Contains.{long-absent, put-probe}
+use Rattle.index.proofs.RightKept.{right-after-put}
 
--- ---- what a check that is passed says, whatever was lent
-
--- the checks before the search
-pub record EarlyPassed (w : CQDBWriter) (buf name : List ℕ) : Type 0 where
-  pub buffer : InBuffer w buf
-  pub short : length name < 4294967295
-
-pub early-passed : (w : CQDBWriter) (buf name : List ℕ) → earlyRefusal w buf name ≡ 0 → EarlyPassed w buf name
-unfolding earlyRefusal
-early-passed w buf name h = by-checks (inBuffer w buf) (hasZero name) (ltb 4294967294 (length name)) refl refl h
-  where
-    by-checks : (b z l : Bool) → inBuffer w buf ≡ b → ltb 4294967294 (length name) ≡ l → _≡_ {A = ℕ} (cond (not b) 2 (cond z 13 (cond l 3 0))) 0
-        → EarlyPassed w buf name
-    by-checks true false false p q h = let long = ltb-false 4294967294 (length name) q in record { buffer = buffer-of w buf p; short = omega (arith, long) }
-    by-checks true false true p q h = absurd (omega arith)
-    by-checks true true l p q h = absurd (omega arith)
-    by-checks false z l p q h = absurd (omega arith)
-
--- those after it
-pub record LatePassed (w : CQDBWriter) (counts : List ℕ) (n id h : ℕ) : Type 0 where
-  pub fine : tooLarge (w .length) (finishedSize (writerAfterPut w n id)) ≡ false
-  pub count : getD counts (tableOf h) 0 < 4294967295
-
-pub late-passed : (w : CQDBWriter) (counts : List ℕ) (n id h : ℕ) → lateRefusal w counts n id h ≡ 0 → LatePassed w counts n id h
-unfolding lateRefusal
-late-passed w counts n id h e =
-    by-checks (tooLarge (w .length) (finishedSize (writerAfterPut w n id))) (ltb 4294967294 (getD counts (tableOf h) 0)) refl refl e
-  where
-    by-checks : (t c : Bool) → tooLarge (w .length) (finishedSize (writerAfterPut w n id)) ≡ t → ltb 4294967294 (getD counts (tableOf h) 0) ≡ c
-        → _≡_ {A = ℕ} (cond t 3 (cond c 2 0)) 0 → LatePassed w counts n id h
-    by-checks false false p q e =
-        let small = ltb-false 4294967294 (getD counts (tableOf h) 0) q in
-        record { fine = p; count = omega (arith, small) }
-    by-checks false true p q e = absurd (omega arith)
-    by-checks true c p q e = absurd (omega arith)
-
--- ---- by a right index
+-- ---- the refusal by a right index
 
 -- The refusal by the slots and the rule's, by their tests: a zero byte, a name too long to have a hash, repeats off, an entry of the name, a match of
 -- the probe, an image too large, a probe that met no empty slot, and no slot to spare.
@@ -118,7 +86,7 @@ module _ {s : State} {words : List ℕ} (bytes : AllBytes (s .buffer)) (right : 
           let few = count-small w (s .counts) (s .buffer) (length (e .name)) (e .id) (a .fit) p h in
           ap (λ (b : Bool). cond {A = ℕ} b 2 0) (le-ltb 4294967294 (getD (s .counts) (tableOf h) 0) (omega (arith, few)))
 
-  pub slots-by-rule : refusalBySlots s words e ≡ indexedRefusal s words e
+  slots-by-rule : refusalBySlots s words e ≡ indexedRefusal s words e
   unfolding refusalBySlots indexedRefusal
   slots-by-rule =
       rw (early-by-name, late-by-size, by-name)
@@ -131,7 +99,7 @@ module _ {s : State} {words : List ℕ} (bytes : AllBytes (s .buffer)) (right : 
       too-long l = let more = ltb-true 4294967294 (length (e .name)) l in omega (arith, more)
 
 -- an accepted put by the index is an accepted put
-pub none-refused : (s : State) (words : List ℕ) (e : Entry) → indexedRefusal s words e ≡ 0
+none-refused : (s : State) (words : List ℕ) (e : Entry) → indexedRefusal s words e ≡ 0
     → (putRefusal s e ≡ 0) × (seeks s ≡ true → s .writer .entries < slotCount words)
 unfolding indexedRefusal
 none-refused s words e z = by-tests (seeks s) refl (eqb (putRefusal s e) 0) refl (leb (slotCount words) (s .writer .entries)) refl z
@@ -142,3 +110,61 @@ none-refused s words e z = by-tests (seeks s) refl (eqb (putRefusal s e) 0) refl
     by-tests true off true x false y z = (z, λ o. leb-false (slotCount words) (s .writer .entries) y)
     by-tests true off false x b y z = absurd (eqb-false (putRefusal s e) 0 x z)
     by-tests false on a x b y z = (z, λ off. absurd (false-not-true (sym on ∙ off)))
+
+-- ---- what a put leaves
+
+module _ {s : State} {words : List ℕ} {e : Entry} {h : ℕ} {d : Decision} (bytes : AllBytes (s .buffer)) (decided : Decided s words e h d) where
+  by-rule : Right s words → d .refusal ≡ indexedRefusal s words e
+  by-rule right = decided .number ∙ slots-by-rule bytes right e
+
+  pub put-refused : (d .refusal ≡ 0 → ⊥) → PutIndexed s words e (d .refusal) s words
+  unfolding afterIndexed
+  put-refused n =
+      record {
+        number = decided .number;
+        refused = λ z. (refl, refl);
+        accepted = λ z. absurd (n z);
+        answer = by-rule;
+        leaves = λ right. sym (ap (λ (b : Bool). cond b (appended s e) s) (ne-eqb (indexedRefusal s words e) 0 (λ z. n (by-rule right ∙ z))));
+        right = λ right. right;
+      }
+
+  module _ (z : d .refusal ≡ 0) (word : e .id < 2 ^ 32) {t : State} {words′ : List ℕ} (appends : t ≡ appended s e)
+      (stores : words′ ≡ cond (ltb (d .slot) (slotCount words)) (slotStored words (d .slot) h (s .writer .end)) words) where
+    bounds : InBounds s words e h (d .slot)
+    bounds = decided .bounds z
+
+    first-is : seeks s ≡ true → d .slot ≡ firstEmptySlot words (hashOf (e .name))
+    first-is off = bounds .slot ∙ ap (λ (b : Bool). cond b (firstEmptySlot words (hashOf (e .name))) (slotCount words)) off
+
+    inserts : words′ ≡ slotsAfter s words e
+    inserts = stores ∙ by-choice (seeks s) refl
+      where
+        by-choice : (b : Bool) → seeks s ≡ b → cond (ltb (d .slot) (slotCount words)) (slotStored words (d .slot) h (s .writer .end)) words
+            ≡ cond b (slotInserted words (hashOf (e .name)) (s .writer .end)) words
+        by-choice true off =
+            ap (λ (b : Bool). cond b (slotStored words (d .slot) h (s .writer .end)) words) (lt-ltb (d .slot) (slotCount words) (bounds .inside off))
+            ∙ ap₂ (λ (i x : ℕ). slotStored words i x (s .writer .end)) (first-is off) (bounds .stores .hash)
+        by-choice false on =
+            let none = bounds .slot ∙ ap (λ (b : Bool). cond b (firstEmptySlot words (hashOf (e .name))) (slotCount words)) on in
+            ap (λ (b : Bool). cond b (slotStored words (d .slot) h (s .writer .end)) words) (le-ltb (d .slot) (slotCount words) (omega (arith, none)))
+
+    stays : Right s words → Right t words′
+    stays right =
+        let none = none-refused s words e (sym (by-rule right) ∙ z) in
+        let inside : seeks s ≡ true → firstEmptySlot words (hashOf (e .name)) < slotCount words =
+        λ off. subst (λ (k : ℕ). k < slotCount words) (first-is off) (bounds .inside off) in
+        subst (λ (u : State). Right u words′) (sym appends)
+        (subst (Right (appended s e)) (sym inserts) (right-after-put bytes right e word (none .0) (none .1) inside))
+
+    pub put-accepted : PutIndexed s words e 0 t words′
+    unfolding afterIndexed
+    put-accepted =
+        record {
+          number = sym z ∙ decided .number;
+          refused = λ n. absurd (n refl);
+          accepted = λ none. (appends, inserts);
+          answer = λ right. sym z ∙ by-rule right;
+          leaves = λ right. appends ∙ sym (ap (λ (b : Bool). cond b (appended s e) s) (eq-eqb (indexedRefusal s words e) 0 (sym (by-rule right) ∙ z)));
+          right = stays;
+        }
