@@ -147,7 +147,8 @@ module _ (mode : Mode) (repeats : Repeats) where
       let w = left-written mode repeats left in
       let none = close-accepted mode repeats n es s w in
       let still = right-written right w (close-written mode repeats n es s w) in
-      step (call close) r (kept-call l close (λ z. omega (arith, z, run .0, none))) (ap (λ (q : ℕ). cons q (dueIndexed m mode repeats n (es ++ []) cs)) (run .0 ∙ none))
+      step (call close) r (kept-call l close (λ z. omega (arith, z, run .0, none)))
+      (ap (λ (q : ℕ). cons q (dueIndexed m mode repeats n (es ++ []) cs)) (run .0 ∙ none))
       (along cs m (more l close r) (es ++ []) (afterClose s) words (left-call mode repeats left close r (run .0) (word .0)) still size (word .1)
       rs t words′ (run .1))
   along (grow longer ∷ cs) m l es s words left right size word (r ∷ rs) t words′ (at, is, run) =

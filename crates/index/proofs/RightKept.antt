@@ -52,8 +52,8 @@ word-of : (mode : Mode) (e : Entry) → e .id < 2 ^ 32 → WordId mode (put e)
 word-of Twoway e h = tt
 word-of Oneway e h = h
 
-module _ {s : State} {words : List ℕ} (bytes : AllBytes (s .buffer)) (right : Right s words) (e : Entry) (word : e .id < 2 ^ 32) (due : putRefusal s e ≡ 0)
-    where
+module _ {s : State} {words : List ℕ} (bytes : AllBytes (s .buffer)) (right : Right s words) (e : Entry) (word : e .id < 2 ^ 32)
+    (due : putRefusal s e ≡ 0) where
   abbrev mode : Mode
   mode = s .writer .mode
 
@@ -107,40 +107,30 @@ module _ {s : State} {words : List ℕ} (bytes : AllBytes (s .buffer)) (right : 
 
 -- ---- a fresh record, a close and a longer buffer
 
--- a fresh record has no entry
-pub fresh-holds-none : (mode : Mode) (repeats : Repeats) (buffer : List ℕ) → headSize ≤ length buffer → recorded (fresh mode repeats buffer) ≡ []
-fresh-holds-none mode repeats buffer room =
-    written-recorded mode repeats (length buffer) [] (fresh mode repeats buffer) (fresh-written mode repeats buffer room)
+-- a fresh record has no entry: slots that are filled with none are its index
+right-begun : (mode : Mode) (repeats : Repeats) (buffer words : List ℕ) → headSize ≤ length buffer
+    → (seeks (fresh mode repeats buffer) ≡ true → FilledWith words (entryBuckets [])) → Right (fresh mode repeats buffer) words
+right-begun mode repeats buffer words room slots =
+    let w = fresh-written mode repeats buffer room in
+    record {
+      closes = close-accepted mode repeats (length buffer) [] (fresh mode repeats buffer) w;
+      tables = w .tables;
+      capacity = λ off. omega (arith, w .entries);
+      slots = λ off. subst (λ (es : List Entry). FilledWith words (entryBuckets es))
+          (sym (written-recorded mode repeats (length buffer) [] (fresh mode repeats buffer) w)) (slots off);
+    }
 
 pub right-fresh : (mode : Mode) (repeats : Repeats) (buffer words : List ℕ) → headSize ≤ length buffer → ((i : ℕ) → getD words i 0 ≡ 0)
     → Right (fresh mode repeats buffer) words
 unfolding filled insertAll placed
 right-fresh mode repeats buffer words room clear =
-    let w = fresh-written mode repeats buffer room in
-    let none = fresh-holds-none mode repeats buffer room in
-    record {
-      closes = close-accepted mode repeats (length buffer) [] (fresh mode repeats buffer) w;
-      tables = w .tables;
-      capacity = λ off. omega (arith, w .entries);
-      slots = λ off.
-          record {
-            each =
-                λ k h. same-slot (clear (2 * k)) (clear (2 * k + 1)) ∙ sym (getD-empties (slotCount words) k)
-                ∙ ap (λ (es : List Entry). getD (filled (slotCount words) (entryBuckets es)) k empty) (sym none);
-          };
-    }
+    right-begun mode repeats buffer words room
+    (λ off. record { each = λ k h. same-slot (clear (2 * k)) (clear (2 * k + 1)) ∙ sym (getD-empties (slotCount words) k) })
 
 -- with repeats on any words are
 right-any : (mode : Mode) (buffer words : List ℕ) → headSize ≤ length buffer → Right (fresh mode On buffer) words
 unfolding fresh
-right-any mode buffer words room =
-    let w = fresh-written mode On buffer room in
-    record {
-      closes = close-accepted mode On (length buffer) [] (fresh mode On buffer) w;
-      tables = w .tables;
-      capacity = λ off. absurd (false-not-true off);
-      slots = λ off. absurd (false-not-true off);
-    }
+right-any mode buffer words room = right-begun mode On buffer words room (λ off. absurd (false-not-true off))
 
 -- where the entries stand in a longer buffer
 pub right-moved : {s : State} {words : List ℕ} {mode : Mode} {repeats : Repeats} {n : ℕ} {es : List Entry} → Right s words

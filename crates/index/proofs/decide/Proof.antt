@@ -16,7 +16,8 @@ use Rattle.index.specs.Index.{slotCount, seeks}
 use Rattle.index.specs.Probe.{hasNameAt, probeSlots}
 use Rattle.index.specs.Refusals.{lateRefusal, earlyOf, lateOf, probedFor, refusalBySlots}
 use Rattle.index.specs.steps.Decided.{WithoutSlot, Decided}
-use Rattle.index.proofs.PutChecks.{EarlyPassed, early-passed, late-passed, append-pre, slots-early, search-duplicate, search-late, search-slot, search-end}
+use Rattle.index.proofs.PutChecks.{EarlyPassed, early-passed, late-passed, append-pre, slots-early}
+use Rattle.index.proofs.PutChecks.{search-duplicate, search-late, search-slot, search-end}
 use borrow.Author.Needs.{needs}
 use Rattle.index.proofs.decide.Statement.{statement}
 use Rattle.index.proofs.decide.Tie as tie
@@ -146,18 +147,5 @@ returns-5 c =
 pub decide-spec : {M : Type 1} → statement M
 decide-spec =
     tie.close
-    (tie.spec
-    (λ c κs. search needs)
-    (λ c κs. search needs)
-    returns
-    (λ c κs. search needs)
-    slice-aggregate-search
-    (λ c κs. search needs)
-    (λ c κs. search needs)
-    returns-2
-    late-refusal-requires
-    (λ c κs. search needs)
-    returns-3
-    (λ c κs. search needs)
-    returns-4
-    returns-5)
+    (tie.spec (λ c κs. search needs) (λ c κs. search needs) returns (λ c κs. search needs) slice-aggregate-search (λ c κs. search needs)
+    (λ c κs. search needs) returns-2 late-refusal-requires (λ c κs. search needs) returns-3 (λ c κs. search needs) returns-4 returns-5)

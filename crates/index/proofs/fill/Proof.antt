@@ -134,26 +134,6 @@ returns-3 c = filling-end (c .before .before .before .before .pre) (c .before .l
 pub fill-spec : {M : Type 1} → statement M
 fill-spec =
     tie.close
-    (tie.spec
-    Inv-loop
-    μ-loop
-    loop-holds
-    whole-length-requires
-    same-length
-    returns
-    name-at-requires
-    (λ c κs. search needs)
-    (λ c. search needs)
-    (λ c. search needs)
-    same-length-2
-    returns-2
-    (λ c κs. search needs)
-    cast-store-slot
-    store-slot-requires
-    add-at
-    add-at-2
-    sub-left
-    loop-less
-    loop-again
-    same-length-3
-    returns-3)
+    (tie.spec Inv-loop μ-loop loop-holds whole-length-requires same-length returns name-at-requires (λ c κs. search needs) (λ c. search needs)
+    (λ c. search needs) same-length-2 returns-2 (λ c κs. search needs) cast-store-slot store-slot-requires add-at add-at-2 sub-left loop-less loop-again
+    same-length-3 returns-3)

@@ -65,13 +65,5 @@ returns-3 c =
 pub index-spec : {M : Type 1} → statement M
 index-spec =
     tie.close
-    (tie.spec
-    (λ c κs. search needs)
-    returns
-    (λ c. search needs)
-    returns-2
-    (λ c. search needs)
-    (λ c κs. search needs)
-    fill-requires
-    (λ c. search needs)
+    (tie.spec (λ c κs. search needs) returns (λ c. search needs) returns-2 (λ c. search needs) (λ c κs. search needs) fill-requires (λ c. search needs)
     returns-3)

@@ -59,15 +59,5 @@ returns-2 c =
 pub put-indexed-spec : {M : Type 1} → statement M
 put-indexed-spec =
     tie.close
-    (tie.spec
-    (λ c κs. search needs)
-    (λ c κs. search needs)
-    (λ c. search needs)
-    (λ c. search needs)
-    returns
-    cast-store-if-slot
-    (λ c κs. search needs)
-    append-requires
-    (λ c. search needs)
-    (λ c. search needs)
-    returns-2)
+    (tie.spec (λ c κs. search needs) (λ c κs. search needs) (λ c. search needs) (λ c. search needs) returns cast-store-if-slot (λ c κs. search needs)
+    append-requires (λ c. search needs) (λ c. search needs) returns-2)

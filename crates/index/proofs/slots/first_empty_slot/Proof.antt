@@ -50,16 +50,5 @@ returns-3 c = rest-end (c .before .loop .inv) (omega (arith, c .loop-test .left)
 pub first-empty-slot-spec : {M : Type 1} → statement M
 first-empty-slot-spec =
     tie.close
-    (tie.spec
-    Inv-loop
-    μ-loop
-    returns
-    start-requires
-    loop-holds
-    offset-at-requires
-    returns-2
-    next-requires
-    (λ c. search needs)
-    (λ c. search needs)
-    loop-again
-    returns-3)
+    (tie.spec Inv-loop μ-loop returns start-requires loop-holds offset-at-requires returns-2 next-requires (λ c. search needs) (λ c. search needs)
+    loop-again returns-3)
