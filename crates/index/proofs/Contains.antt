@@ -3,7 +3,7 @@ use Prim.Native.Nat.{ℕ, _≤_, _<_, _+_, _^_}
 use native.Mathlib.Omega.{arith}
 use native.Mathlib.Decide.{ℕ-discrete}
 use mathlib.Core.Path.{_≡_, refl, sym, subst, _∙_, ap}
-use mathlib.Core.Bool.{Bool, true, false, cond, _&&_, _||_}
+use mathlib.Core.Bool.{Bool, true, false, cond, _&&_, _||_, or-true}
 use mathlib.Core.List.{List, [], _∷_, map}
 use mathlib.Core.Logic.{inl, inr}
 use borrow.Author.Tests.{eq-eqb, ne-eqb, lt-ltb, le-ltb, le-leb, lt-leb, eqb-false}
@@ -74,12 +74,9 @@ module _ (name : List ℕ) (v : ℕ → Bool) where
   has-one o [] = tt
   has-one o (e ∷ es) = (
     λ t. ap (λ (x : Bool). x || containsName name es) t,
-    all-map (λ p later t. by-first (hasName name e) (later t)) (placed (o + entrySize e) es) (has-one (o + entrySize e) es),
+    all-map (λ p later t. ap (λ (x : Bool). hasName name e || x) (later t) ∙ or-true (hasName name e)) (placed (o + entrySize e) es)
+        (has-one (o + entrySize e) es),
   )
-    where
-      by-first : (t : Bool) → containsName name es ≡ true → (t || containsName name es) ≡ true
-      by-first true h = refl
-      by-first false h = h
 
   -- a probe with a match has passed a slot whose entry has the name
   matches-some : (b : ℕ → Bucket) (h : ℕ) {X : Type 0} (ks : List ℕ) → All (λ (k : ℕ). NotEmpty (b k) → v (b k .at) ≡ true → X) ks
@@ -109,6 +106,11 @@ long-absent s bytes closes name h =
 
 -- ---- a right index
 
+-- what the result r of a put's probe says
+pub record PutProbe (s : State) (words name : List ℕ) (r : ℕ) : Type 0 where
+  pub found : ltb (slotCount words) r ≡ containsName name (recorded s)
+  pub full : ltb (slotCount words) r ≡ false → eqb r (slotCount words) ≡ leb (slotCount words) (s .writer .entries)
+
 module _ {s : State} {words : List ℕ} (bytes : AllBytes (s .buffer)) (right : Right s words) (off : seeks s ≡ true) (name : List ℕ) where
   abbrev es : List Entry
   es = recorded s
@@ -116,14 +118,11 @@ module _ {s : State} {words : List ℕ} (bytes : AllBytes (s .buffer)) (right : 
   abbrev m : ℕ
   m = slotCount words
 
-  abbrev img : List ℕ
-  img = take (s .writer .end) (s .buffer)
-
   abbrev h : ℕ
   h = hashOf name
 
   abbrev v : ℕ → Bool
-  v = hasNameAt img name
+  v = hasNameAt (take (s .writer .end) (s .buffer)) name
 
   abbrev ks : List ℕ
   ks = slotSequence words h
@@ -139,7 +138,8 @@ module _ {s : State} {words : List ℕ} (bytes : AllBytes (s .buffer)) (right : 
 
   decided : All (Decides name v) (placed headSize es)
   decided =
-      all-decided img name (omega (arith, length-take (s .writer .end) (s .buffer), end-small s bytes (right .closes))) es
+      all-decided (take (s .writer .end) (s .buffer)) name
+      (omega (arith, length-take (s .writer .end) (s .buffer), end-small s bytes (right .closes))) es
       (entries-stand s bytes (right .closes)) (ids-are s bytes (right .closes))
 
   none-has : hasMatch (slotAt words) h v ks ≡ false → containsName name es ≡ false
@@ -167,15 +167,10 @@ module _ {s : State} {words : List ℕ} (bytes : AllBytes (s .buffer)) (right : 
   some-has : hasMatch (slotAt words) h v ks ≡ true → containsName name es ≡ true
   some-has = matches-some name v (slotAt words) h ks (all-map held ks (sequence-below words h))
 
-  -- what the result r of a put's probe says
-  pub record PutProbe (r : ℕ) : Type 0 where
-    pub found : ltb (slotCount words) r ≡ containsName name (recorded s)
-    pub full : ltb (slotCount words) r ≡ false → eqb r (slotCount words) ≡ leb (slotCount words) (s .writer .entries)
-
-  pub put-probe : PutProbe (probeSlots words (hashOf name) (hasNameAt (take (s .writer .end) (s .buffer)) name))
+  pub put-probe : PutProbe s words name (probeSlots words (hashOf name) (hasNameAt (take (s .writer .end) (s .buffer)) name))
   put-probe = by-result (result words h v)
     where
-      by-result : Result words h v ks → PutProbe (probeSlots words h v)
+      by-result : Result words h v ks → PutProbe s words name (probeSlots words h v)
       by-result (inl o) =
           let above = lt-ltb m k (omega (arith, o .is)) in
           record { found = above ∙ sym (some-has (o .matching)); full = λ f. absurd (false-not-true (sym f ∙ above)) }

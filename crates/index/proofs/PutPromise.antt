@@ -32,25 +32,25 @@ use Rattle.index.proofs.RightKept.{right-after-put}
 
 -- The refusal by the slots and the rule's, by their tests: a zero byte, a name too long to have a hash, repeats off, an entry of the name, a match of
 -- the probe, an image too large, a probe that met no empty slot, and no slot to spare.
-same-refusal : (zero long off held met large none full : Bool) → (long ≡ true → held ≡ false) → (long ≡ true → large ≡ true)
+refusals-agree : (zero long off held met large none full : Bool) → (long ≡ true → held ≡ false) → (long ≡ true → large ≡ true)
     → (off ≡ true → met ≡ held) → (off ≡ true → met ≡ false → none ≡ full)
     → let early = cond {A = ℕ} zero 13 (cond long 3 0) in
     let late = cond {A = ℕ} large 3 0 in
     let due = cond {A = ℕ} zero 13 (cond (held && off) 16 late) in
     cond (eqb early 0) (cond off (cond met 16 (cond (eqb late 0) (cond none 24 0) late)) late) early ≡ cond (off && (eqb due 0 && full)) 24 due
-same-refusal true long true held met large none full absent over same spare = refl
-same-refusal true long false held met large none full absent over same spare = refl
-same-refusal false true off true met large none full absent over same spare = absurd (false-not-true (sym (absent refl)))
-same-refusal false true off false met false none full absent over same spare = absurd (false-not-true (over refl))
-same-refusal false true true false met true none full absent over same spare = refl
-same-refusal false true false false met true none full absent over same spare = refl
-same-refusal false false false true met large none full absent over same spare = refl
-same-refusal false false false false met large none full absent over same spare = refl
-same-refusal false false true true true large none full absent over same spare = refl
-same-refusal false false true true false large none full absent over same spare = absurd (false-not-true (same refl))
-same-refusal false false true false true large none full absent over same spare = absurd (false-not-true (sym (same refl)))
-same-refusal false false true false false true none full absent over same spare = refl
-same-refusal false false true false false false none full absent over same spare = ap (λ (b : Bool). cond {A = ℕ} b 24 0) (spare refl refl)
+refusals-agree true long true held met large none full absent over same spare = refl
+refusals-agree true long false held met large none full absent over same spare = refl
+refusals-agree false true off true met large none full absent over same spare = absurd (false-not-true (sym (absent refl)))
+refusals-agree false true off false met false none full absent over same spare = absurd (false-not-true (over refl))
+refusals-agree false true true false met true none full absent over same spare = refl
+refusals-agree false true false false met true none full absent over same spare = refl
+refusals-agree false false false true met large none full absent over same spare = refl
+refusals-agree false false false false met large none full absent over same spare = refl
+refusals-agree false false true true true large none full absent over same spare = refl
+refusals-agree false false true true false large none full absent over same spare = absurd (false-not-true (same refl))
+refusals-agree false false true false true large none full absent over same spare = absurd (false-not-true (sym (same refl)))
+refusals-agree false false true false false true none full absent over same spare = refl
+refusals-agree false false true false false false none full absent over same spare = ap (λ (b : Bool). cond {A = ℕ} b 24 0) (spare refl refl)
 
 module _ {s : State} {words : List ℕ} (bytes : AllBytes (s .buffer)) (right : Right s words) (e : Entry) where
   a : Accepted s
@@ -90,7 +90,7 @@ module _ {s : State} {words : List ℕ} (bytes : AllBytes (s .buffer)) (right : 
   unfolding refusalBySlots indexedRefusal
   slots-by-rule =
       rw (early-by-name, late-by-size, by-name)
-      (same-refusal (hasZero (e .name)) (ltb 4294967294 (length (e .name))) (seeks s) (containsName (e .name) (recorded s))
+      (refusals-agree (hasZero (e .name)) (ltb 4294967294 (length (e .name))) (seeks s) (containsName (e .name) (recorded s))
       (ltb (slotCount words) (probedFor s words e)) large (eqb (probedFor s words e) (slotCount words)) (leb (slotCount words) (w .entries))
       (λ l. long-absent s bytes (right .closes) (e .name) (too-long l)) (λ l. long-name w (e .name) (e .id) (too-long l))
       (λ off. put-probe bytes right off (e .name) .found) (λ off. put-probe bytes right off (e .name) .full))
