@@ -17,8 +17,8 @@ use image::scratch::clear_words;
 use jhash::refusals::ANSWERS_TOO_FEW;
 use jhash::refusals::ROUND_UNFIT;
 use jhash::refusals::TOO_SHORT;
-use singly::index_words;
 use singly::put_list;
+use singly::scratch_for_index;
 use stored::write_list;
 use writer::CQDBWriter;
 use writer::Repeats;
@@ -85,7 +85,7 @@ fn build_singly(
         (now (refusals .entry)) r (now (buf .exit)) (now (refusals .exit))
         ⌝ }
 {
-    let words = index_words(repeats, ends.len(), scratch.len());
+    let words = scratch_for_index(repeats, ends.len(), scratch.len());
     let slots = &mut scratch[..words];
     clear_words(&mut *slots, words);
     let mut counts = [0; 256];

@@ -2,7 +2,7 @@
 // own put, which walks all earlier entries where repeats are off.
 ghost use Rattle.writer.specs.State.{stateWith};
 ghost use Rattle.writer.specs.Put.{entryOf};
-ghost use Rattle.build.specs.steps.Steps.{IndexWords, PutPre, PutPost, PutListPre, PutListPost};
+ghost use Rattle.build.specs.steps.Steps.{ScratchForIndex, PutPre, PutPost, PutListPre, PutListPost};
 use image::packed::nth_name;
 use index::put_indexed;
 use writer::CQDBWriter;
@@ -11,8 +11,8 @@ use writer::Repeats;
 
 // How many words of the scratch memory are the index of n names: 5 a name, or what there is; a slot has two. 0 where
 // there is less than a slot a name, and with repeats on, where no put looks for its name.
-pub(crate) fn index_words(repeats: Repeats, n: usize, words: usize) -> usize
-    ensures { λ r. ⌜ IndexWords n words r ⌝ }
+pub(crate) fn scratch_for_index(repeats: Repeats, n: usize, words: usize) -> usize
+    ensures { λ r. ⌜ ScratchForIndex n words r ⌝ }
 {
     match repeats {
         Repeats::On => 0,

@@ -1,15 +1,42 @@
--- Slots filled with one entry more. Assumes nothing.
+-- The buckets of entries, and slots filled with one entry more. Assumes nothing.
 use Prim.Native.Nat.{ℕ, _+_, _*_, _/_, _<_}
 use native.Mathlib.Omega.{arith}
 use native.Mathlib.Decide.{ℕ-discrete}
 use mathlib.Core.Path.{_≡_, refl, sym, ap, _∙_}
-use mathlib.Core.List.{List, [], _∷_, _++_}
-use lib.ListN.{length, getD, set, length-set}
+use mathlib.Core.List.{List, [], _∷_, _++_, map, map-append}
+use lib.ListN.{length, getD, set, length-set, length-map}
 use lib.Seq.{getD-set-same, getD-set-other}
+use Rattle.jhash.specs.NameHash.{hashOf}
 use Rattle.image.specs.Tables.{Bucket, empty, filled}
-use Rattle.image.proofs.Sizes.{length-filled}
+use Rattle.image.specs.Bytes.{same}
+use Rattle.image.specs.Image.{Entry, headSize, entrySize, entriesSize, placed, bucketOf}
+use Rattle.image.proofs.Sizes.{length-filled, placed-append, length-placed}
+use Rattle.image.proofs.AllOfList.{All}
 use Rattle.lookup_laws.proofs.SlotSearch.{filled-next}
-use Rattle.index.specs.Index.{slotCount, slotAt, slotStored, firstEmptySlot, FilledWith}
+use Rattle.lookup_laws.proofs.TableContents.{NotEmpty}
+use Rattle.index.specs.Index.{slotCount, slotAt, slotStored, firstEmptySlot, FilledWith, entryBuckets}
+
+-- ---- the buckets of entries
+
+pub buckets-snoc : (es : List Entry) (e : Entry)
+    → entryBuckets (es ++ (e ∷ [])) ≡ entryBuckets es ++ (record { hash = hashOf (e .name); at = headSize + entriesSize es } ∷ [])
+unfolding placed
+buckets-snoc es e =
+    ap (map bucketOf) (placed-append headSize es (e ∷ []))
+    ∙ map-append bucketOf (placed headSize es) (placed (headSize + entriesSize es) (e ∷ []))
+
+pub length-buckets : (es : List Entry) → length (entryBuckets es) ≡ length es
+length-buckets es = length-map (placed headSize es) bucketOf ∙ length-placed headSize es
+
+pub buckets-occupied : (es : List Entry) → All NotEmpty (entryBuckets es)
+unfolding placed
+buckets-occupied es = from headSize es (omega arith)
+  where
+    from : (o : ℕ) (es : List Entry) → 0 < o → All NotEmpty (map bucketOf (placed o es))
+    from o [] h = tt
+    from o (e ∷ es) h = ((λ z. omega (arith, h, z)), from (o + entrySize e) es (omega arith))
+
+-- ---- slots
 
 -- equal words make equal slots
 pub same-slot : {h h′ o o′ : ℕ} → h ≡ h′ → o ≡ o′ → _≡_ {A = Bucket} (record { hash = h; at = o }) (record { hash = h′; at = o′ })

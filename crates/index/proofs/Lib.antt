@@ -1,15 +1,10 @@
 -- The laws of the index.
 pub mod Probing
-pub mod EntryNames
 pub mod Insert
 pub mod Contains
-pub mod PutRefusals
-pub mod RightAfterPut
 pub mod PutChecks
-pub mod PutLeaves
-pub mod FillSlots
-pub mod IndexRefusals
 pub mod RightKept
-pub mod PutResults
+pub mod PutPromise
+pub mod MakeIndex
 pub mod PlainLists
 pub mod ListsByIndex

@@ -1,36 +1,83 @@
 -- Lists of calls by an index, of every length, with growth and indexes made anew between the calls. Assumes nothing.
-use Prim.Native.Nat.{ℕ, _/_, _≤_}
+use Prim.Native.Nat.{ℕ, _/_, _≤_, _<_}
 use native.Mathlib.Omega.{arith}
+use native.Mathlib.Decide.{ℕ-discrete}
 use mathlib.Core.Path.{_≡_, refl, sym, ap, ap₂, subst, _∙_}
 use mathlib.Core.Bool.{Bool, true, false, cond, _&&_}
 use mathlib.Core.List.{List, [], _∷_, _++_, map, append-nil, append-assoc}
-use mathlib.Core.Logic.{_⊎_, inl, inr}
 use borrow.Author.Tests.{eq-eqb, ne-eqb, eqb-true, le-leb, lt-leb, le-ltb}
 use lib.Dec.{eqb, ltb, leb}
 use lib.ListN.{length, length-append}
 use Rattle.image.specs.declared.Mode.{Mode}
-use Rattle.image.specs.Image.{Entry, headSize}
+use Rattle.jhash.specs.NameHash.{hashOf}
+use Rattle.image.specs.Image.{Entry, headSize, containsName}
+use Rattle.image.specs.Zero.{hasZero}
 use Rattle.writer.specs.declared.Repeats.{Repeats}
-use Rattle.writer.specs.State.{State, fresh, refusesRepeats}
-use Rattle.writer.specs.Put.{putRefusal, afterPut}
+use Rattle.writer.specs.State.{State, fresh, refusesRepeats, tooLarge}
+use Rattle.writer.specs.Put.{putRefusal, appended, afterPut}
 use Rattle.writer.specs.Close.{afterClose, closedImage}
-use Rattle.writer.proofs.Puts.{refused-leaves, accepted-leaves}
 use Rattle.writer.proofs.Longer.{longer-accepted}
-use Rattle.lists.specs.Calls.{Call, put, close, after, answers, acceptedOne, acceptedAfter, acceptedFrom, accepted, putDue, dueTo, WordIds}
+use Rattle.lists.specs.Calls.{Call, put, close, after, answers, acceptedOne, acceptedAfter, acceptedFrom, accepted, putDue, sizeOf, dueTo, WordIds}
 use Rattle.lists.specs.Demand3.{answersOf, afterList, acceptedPuts, imageOf}
 use Rattle.lists.specs.theorems.LongerBuffer.{movedTo}
 use Rattle.lists.proofs.ListWritten.{Written}
 use Rattle.lists.proofs.ListPuts.{put-due}
 use Rattle.lists.proofs.ListCloses.{close-accepted, close-written}
 use Rattle.lists.proofs.CallLists.{list-answers, list-accepted}
-use Rattle.index.specs.Index.{slotCount, Right, indexRefusal}
-use Rattle.index.specs.Promise.{Indexed}
+use Rattle.index.specs.Index.{slotCount, firstEmptySlot, slotInserted, seeks, Right, indexedRefusal, afterIndexed, indexRefusal}
+use Rattle.index.specs.Promise.{PutIndexed, Indexed}
 use Rattle.index.specs.theorems.ListsByIndex.{Step, call, grow, anew, callsOf, Run, dueToIndexed, dueToAnew, dueIndexed}
 use Rattle.index.specs.theorems.ListsByIndex.{Plain, plainAfter, plainFrom, Enough, NoneFull, RunByIndex, RunOfCalls, ListsByIndex}
-use Rattle.index.proofs.PutResults.{due-below, PutResult, result, size-kept}
+use Rattle.index.proofs.Insert.{length-stored}
 use Rattle.index.proofs.PlainLists.{cons, more, Left, left-written, left-call, left-grown}
-use Rattle.index.proofs.RightAfterPut.{right-written}
-use Rattle.index.proofs.RightKept.{right-moved}
+use Rattle.index.proofs.RightKept.{right-written, right-moved}
+
+-- ---- one put
+
+-- no call is due 24 without an index
+due-below : (mode : Mode) (repeats : Repeats) (n : ℕ) (es : List Entry) (c : Call) → dueTo mode repeats n es c < 24
+unfolding putDue
+due-below mode repeats n es close = omega arith
+due-below mode repeats n es (put e) =
+    by-checks (hasZero (e .name)) (containsName (e .name) es && refusesRepeats repeats) (tooLarge n (sizeOf mode (es ++ (e ∷ []))))
+  where
+    by-checks : (z d t : Bool) → cond {A = ℕ} z 13 (cond d 16 (cond t 3 0)) < 24
+    by-checks true d t = omega arith
+    by-checks false true t = omega arith
+    by-checks false false true = omega arith
+    by-checks false false false = omega arith
+
+-- a put by a right index of m slots after the accepted puts es
+module _ {m : ℕ} {mode : Mode} {repeats : Repeats} {n : ℕ} {es : List Entry} {s : State} {words : List ℕ} {e : Entry} {r : ℕ} {u : State}
+    {mid : List ℕ} (w : Written mode repeats n es s) (right : Right s words) (size : slotCount words ≡ m) (p : PutIndexed s words e r u mid) where
+  rule : Bool → ℕ → ℕ → ℕ → ℕ
+  rule b q k l = cond (b && (eqb q 0 && leb k l)) 24 q
+
+  answer-is : r ≡ dueToIndexed m mode repeats n es (put e)
+  unfolding indexedRefusal rule
+  answer-is =
+      p .answer right
+      ∙ ap₂ (λ (b : Bool) (q : ℕ). rule b q (slotCount words) (s .writer .entries)) (ap refusesRepeats (w .repeats-is)) (put-due mode repeats n es s w e)
+      ∙ ap₂ (rule (refusesRepeats repeats) (putDue mode repeats n es e)) size (w .entries)
+
+  -- with the answer that is due without an index it leaves what a put without one does
+  state-is : dueToIndexed m mode repeats n es (put e) ≡ putDue mode repeats n es e → u ≡ afterPut s e
+  unfolding afterIndexed afterPut
+  state-is same =
+      p .leaves right
+      ∙ ap (λ (q : ℕ). cond (eqb q 0) (appended s e) s) (sym (p .answer right) ∙ answer-is ∙ same ∙ sym (put-due mode repeats n es s w e))
+
+-- the number of slots stays
+size-kept : {s : State} {words : List ℕ} {e : Entry} {r : ℕ} {u : State} {mid : List ℕ} → PutIndexed s words e r u mid → slotCount mid ≡ slotCount words
+size-kept {s} {words} {e} {r} {u} {mid} p =
+    elim (ℕ-discrete r 0) [
+      | yes z ↦ ap slotCount (p .accepted z .1) ∙ by-choice (seeks s)
+      | no n ↦ ap slotCount (p .refused n .1)
+    ]
+  where
+    by-choice : (b : Bool) → slotCount (cond b (slotInserted words (hashOf (e .name)) (s .writer .end)) words) ≡ slotCount words
+    by-choice true = ap (λ (l : ℕ). l / 2) (length-stored words (firstEmptySlot words (hashOf (e .name))) (hashOf (e .name)) (s .writer .end))
+    by-choice false = refl
 
 -- ---- every list
 
@@ -45,48 +92,21 @@ module _ (mode : Mode) (repeats : Repeats) where
     comes : Comes (plainFrom l cs rs) t
     right : Right t words′
 
-  -- a call that keeps its place in the list
-  kept-call : {m n : ℕ} {es : List Entry} {l : Plain} {cs : List Step} {rs : List ℕ} {t : State} {words′ : List ℕ} (c : Call) (r : ℕ)
-      → (r ≡ 24 → ⊥) → r ≡ dueToIndexed m mode repeats n es c
-      → Along m n (es ++ acceptedOne c (dueToIndexed m mode repeats n es c)) (more l c r) cs rs t words′
-      → Along m n es l (call c ∷ cs) (r ∷ rs) t words′
-  unfolding dueIndexed plainFrom
-  kept-call {l = l} {cs = cs} {rs = rs} {t = t} c r other due-is rest =
-      record {
-        answered = ap₂ cons due-is (rest .answered);
-        comes = subst (λ (b : Bool). Comes (plainFrom (cond b l (more l c r)) cs rs) t) (sym (ne-eqb r 24 other)) (rest .comes);
-        right = rest .right;
-      }
-
-  -- a call that is answered by 24
-  full-call : {m n : ℕ} {es : List Entry} {l : Plain} {cs : List Step} {rs : List ℕ} {t : State} {words′ : List ℕ} (e : Entry) (r : ℕ)
-      → r ≡ 24 → dueToIndexed m mode repeats n es (put e) ≡ 24
-      → Along m n es l cs rs t words′
-      → Along m n es l (call (put e) ∷ cs) (r ∷ rs) t words′
-  unfolding dueIndexed plainFrom
-  full-call {m} {n} {es} {l} {cs} {rs} {t} e r is due-is rest =
-      record {
-        answered =
-            ap₂ cons (is ∙ sym due-is)
-            (rest .answered
-            ∙ ap (λ (fs : List Entry). dueIndexed m mode repeats n fs cs)
-            (sym (ap (λ (q : ℕ). es ++ acceptedOne (put e) q) due-is ∙ append-nil es)));
-        comes = subst (λ (b : Bool). Comes (plainFrom (cond b l (more l (put e) r)) cs rs) t) (sym (eq-eqb r 24 is)) (rest .comes);
-        right = rest .right;
-      }
-
-  -- a step that is no call of the plain list
-  other-step : {m n m′ n′ : ℕ} {es : List Entry} {l : Plain} {cs : List Step} {rs : List ℕ} {t : State} {words′ : List ℕ} (c : Step) (r : ℕ)
-      → cons r (dueIndexed m′ mode repeats n′ es cs) ≡ dueIndexed m mode repeats n es (c ∷ cs)
-      → Along m′ n′ es (plainAfter l c r) cs rs t words′
-      → Along m n es l (c ∷ cs) (r ∷ rs) t words′
+  -- one step: what is due to it, and the list without an index after it
+  step : {m n m′ n′ : ℕ} {es fs : List Entry} {l l′ : Plain} {cs : List Step} {rs : List ℕ} {t : State} {words′ : List ℕ} (c : Step) (r : ℕ)
+      → plainAfter l c r ≡ l′ → cons r (dueIndexed m′ mode repeats n′ fs cs) ≡ dueIndexed m mode repeats n es (c ∷ cs)
+      → Along m′ n′ fs l′ cs rs t words′ → Along m n es l (c ∷ cs) (r ∷ rs) t words′
   unfolding plainFrom
-  other-step c r due-is rest =
+  step {cs = cs} {rs = rs} {t = t} c r plain-is due-is rest =
       record {
         answered = ap (cons r) (rest .answered) ∙ due-is;
-        comes = rest .comes;
+        comes = subst (λ (q : Plain). Comes (plainFrom q cs rs) t) (sym plain-is) (rest .comes);
         right = rest .right;
       }
+
+  -- a call keeps its place in that list unless it is answered by 24
+  kept-call : (l : Plain) (c : Call) {r : ℕ} → (r ≡ 24 → ⊥) → plainAfter l (call c) r ≡ more l c r
+  kept-call l c {r} other = ap (λ (b : Bool). cond b l (more l c r)) (ne-eqb r 24 other)
 
   -- the index with which the list goes on after one was made in `lent`: the new one, or where it is refused the old one
   record NextIndex (m : ℕ) (es : List Entry) (s : State) (lent words : List ℕ) (r : ℕ) : Type 0 where
@@ -127,7 +147,8 @@ module _ (mode : Mode) (repeats : Repeats) where
       let w = left-written mode repeats left in
       let none = close-accepted mode repeats n es s w in
       let still = right-written right w (close-written mode repeats n es s w) in
-      kept-call close r (λ z. omega (arith, z, run .0, none)) (run .0 ∙ none)
+      step (call close) r (kept-call l close (λ z. omega (arith, z, run .0, none)))
+      (ap (λ (q : ℕ). cons q (dueIndexed m mode repeats n (es ++ []) cs)) (run .0 ∙ none))
       (along cs m (more l close r) (es ++ []) (afterClose s) words (left-call mode repeats left close r (run .0) (word .0)) still size (word .1)
       rs t words′ (run .1))
   along (grow longer ∷ cs) m l es s words left right size word (r ∷ rs) t words′ (at, is, run) =
@@ -135,42 +156,44 @@ module _ (mode : Mode) (repeats : Repeats) where
       let w = left-written mode repeats left in
       let taken : r ≡ 0 = is ∙ sym (longer-accepted (s .writer) (length longer) (at .long) .0) in
       let still = right-moved right w longer at in
-      other-step (grow longer) r (ap (λ (q : ℕ). cons q (dueIndexed m mode repeats (length longer) es cs)) taken)
+      step (grow longer) r refl (ap (λ (q : ℕ). cons q (dueIndexed m mode repeats (length longer) es cs)) taken)
       (along cs m (plainAfter l (grow longer) r) es (movedTo longer s) words (left-grown mode repeats left longer at) still size word rs t words′ run)
   along (anew lent ∷ cs) m l es s words left right size word (r ∷ rs) t words′ (made, ix, run) =
       let next = next-index (left-written mode repeats left) right size ix in
       let m′ = cond (eqb (dueToAnew (slotCount lent) es) 0) (slotCount lent) m in
-      other-step (anew lent) r (ap (λ (q : ℕ). cons q (dueIndexed m′ mode repeats (length (l .buffer)) es cs)) (next .is))
+      step (anew lent) r refl (ap (λ (q : ℕ). cons q (dueIndexed m′ mode repeats (length (l .buffer)) es cs)) (next .is))
       (along cs m′ l es s (cond (eqb r 0) made words) left (next .right) (next .size) word rs t words′ run)
   along (call (put e) ∷ cs) m l es s words left right size word (r ∷ rs) t words′ (u, mid, p, run) =
       let goes : (l′ : Plain) (fs : List Entry) → Left mode repeats l′ fs u → Along m (length (l′ .buffer)) fs l′ cs rs t words′ =
       λ l′ fs v. along cs m l′ fs u mid v (p .right right) (size-kept p ∙ size) (word .1) rs t words′ run in
-      by-result goes (result (left-written mode repeats left) right size p)
+      let w = left-written mode repeats left in
+      by-full goes (answer-is w right size p) (state-is w right size p) (p .refused) (refusesRepeats repeats && (eqb due 0 && leb m (length es))) refl
     where
-      put-is : putRefusal s e ≡ putDue mode repeats (length (l .buffer)) es e
-      put-is = put-due mode repeats (length (l .buffer)) es s (left-written mode repeats left) e
+      due : ℕ
+      due = putDue mode repeats (length (l .buffer)) es e
 
-      as-without : ((l′ : Plain) (fs : List Entry) → Left mode repeats l′ fs u → Along m (length (l′ .buffer)) fs l′ cs rs t words′)
-          → r ≡ putDue mode repeats (length (l .buffer)) es e
-          → dueToIndexed m mode repeats (length (l .buffer)) es (put e) ≡ putDue mode repeats (length (l .buffer)) es e
-          → u ≡ afterPut s e → Along m (length (l .buffer)) es l (call (put e) ∷ cs) (r ∷ rs) t words′
-      as-without goes is due-is left-by =
-          let n = length (l .buffer) in
-          let next = left-call mode repeats left (put e) r (is ∙ sym put-is) (word .0) in
-          kept-call (put e) r (λ z. omega (arith, z, is, due-below mode repeats n es (put e))) (is ∙ sym due-is)
-          (subst (λ (fs : List Entry). Along m n fs (more l (put e) r) cs rs t words′) (ap (λ (q : ℕ). es ++ acceptedOne (put e) q) (sym due-is))
-          (goes (more l (put e) r) (acceptedAfter mode repeats n es (put e))
-          (subst (Left mode repeats (more l (put e) r) (acceptedAfter mode repeats n es (put e))) (sym left-by) next)))
+      asked : ℕ
+      asked = dueToIndexed m mode repeats (length (l .buffer)) es (put e)
 
-      by-result : ((l′ : Plain) (fs : List Entry) → Left mode repeats l′ fs u → Along m (length (l′ .buffer)) fs l′ cs rs t words′)
-          → PutResult m mode repeats (length (l .buffer)) es s words e r u mid
+      by-full : ((l′ : Plain) (fs : List Entry) → Left mode repeats l′ fs u → Along m (length (l′ .buffer)) fs l′ cs rs t words′)
+          → r ≡ asked → (asked ≡ due → u ≡ afterPut s e) → ((r ≡ 0 → ⊥) → (u ≡ s) × (mid ≡ words))
+          → (b : Bool) → (refusesRepeats repeats && (eqb due 0 && leb m (length es))) ≡ b
           → Along m (length (l .buffer)) es l (call (put e) ∷ cs) (r ∷ rs) t words′
-      by-result goes (inl o) =
-          as-without goes (o .is ∙ sym (o .put-is)) (o .due-is ∙ sym (o .put-is)) (o .state ∙ accepted-leaves s e (put-is ∙ o .put-is))
-      by-result goes (inr (inl o)) =
-          full-call e r (o .is) (o .due-is) (goes l es (subst (Left mode repeats l es) (sym (o .state)) left))
-      by-result goes (inr (inr o)) =
-          as-without goes (o .is) (o .due-is) (o .state ∙ refused-leaves s e r (o .is ∙ sym put-is) (λ z. o .some (sym (o .is) ∙ z)))
+      by-full goes is state kept true full =
+          let due-is : asked ≡ 24 = ap (λ (b : Bool). cond b 24 due) full in
+          let same : es ≡ es ++ acceptedOne (put e) asked = sym (ap (λ (q : ℕ). es ++ acceptedOne (put e) q) due-is ∙ append-nil es) in
+          step (call (put e)) r (ap (λ (b : Bool). cond b l (more l (put e) r)) (eq-eqb r 24 (is ∙ due-is)))
+          (ap₂ (λ (q : ℕ) (fs : List Entry). cons q (dueIndexed m mode repeats (length (l .buffer)) fs cs)) is same)
+          (goes l es (subst (Left mode repeats l es) (sym (kept (λ z. omega (arith, z, is, due-is)) .0)) left))
+      by-full goes is state kept false some =
+          let n = length (l .buffer) in
+          let due-is : asked ≡ due = ap (λ (b : Bool). cond b 24 due) some in
+          let put-is : r ≡ putRefusal s e = is ∙ due-is ∙ sym (put-due mode repeats n es s (left-written mode repeats left) e) in
+          step (call (put e)) r (kept-call l (put e) (λ z. omega (arith, z, is, due-is, due-below mode repeats n es (put e))))
+          (ap₂ (λ (q x : ℕ). cons q (dueIndexed m mode repeats n (es ++ acceptedOne (put e) x) cs)) is (sym due-is))
+          (goes (more l (put e) r) (acceptedAfter mode repeats n es (put e))
+          (subst (Left mode repeats (more l (put e) r) (acceptedAfter mode repeats n es (put e))) (sym (state due-is))
+          (left-call mode repeats left (put e) r put-is (word .0))))
 
   -- ---- enough slots
 

@@ -1,34 +1,66 @@
--- What the checks of a put come to: for whatever slots are lent, and by an index. Assumes nothing.
+-- What the checks of a put come to, for whatever is lent. Assumes nothing.
 use Prim.Native.Nat.{ℕ, _+_, _^_, _≤_, _<_}
 use native.Mathlib.Omega.{arith}
-use native.Mathlib.Decide.{ℕ-discrete, decLt}
-use mathlib.Core.Path.{_≡_, refl, sym, ap, ap₂, subst, _∙_}
-use mathlib.Core.Bool.{Bool, true, false, cond, _&&_, and-false}
+use native.Mathlib.Decide.{ℕ-discrete}
+use mathlib.Core.Path.{_≡_, refl, sym, ap, _∙_}
+use mathlib.Core.Bool.{Bool, true, false, cond, not}
 use mathlib.Core.List.{List}
-use borrow.Author.Tests.{eq-eqb, ne-eqb, lt-ltb, le-ltb}
-use lib.Dec.{eqb}
-use lib.ListN.{length, take}
+use borrow.Author.Tests.{eq-eqb, ne-eqb, lt-ltb, le-ltb, ltb-false}
+use lib.Dec.{eqb, ltb}
+use lib.ListN.{length, take, getD}
 use Rattle.jhash.specs.NameHash.{hashOf}
+use Rattle.image.specs.Image.{Entry}
 use Rattle.image.specs.Tables.{tableOf}
-use Rattle.image.specs.Image.{Entry, containsName}
 use Rattle.image.specs.Zero.{hasZero}
 use Rattle.image.proofs.Bools.{false-not-true}
-use Rattle.image.proofs.EntryArea.{AllBytes}
 use Rattle.writer.specs.declared.CQDBWriter.{CQDBWriter}
-use Rattle.writer.specs.State.{State, finishedSize, tooLarge}
-use Rattle.writer.specs.Put.{writerAfterPut, putRefusal, repeated}
-use Rattle.writer.specs.Close.{recorded}
-use Rattle.writer.proofs.Fits.{not-too-large}
+use Rattle.writer.specs.State.{State, finishedSize, tooLarge, inBuffer}
+use Rattle.writer.specs.Put.{writerAfterPut}
+use Rattle.writer.specs.steps.Storing.{AppendPre}
+use Rattle.writer.proofs.Fits.{not-too-large, InBuffer, buffer-of}
+use Rattle.writer.proofs.Closes.{accepted}
+use Rattle.index.specs.declared.Decision.{Decision}
 use Rattle.index.specs.Index.{slotCount, firstEmptySlot, seeks}
 use Rattle.index.specs.Probe.{hasNameAt}
-use Rattle.index.specs.Refusals.{earlyOf, lateOf, probedFor, refusalAfter, refusalBySlots}
-use Rattle.index.specs.steps.Checks.{AppendPre}
-use Rattle.index.specs.steps.Part.{Closable, PartIndex, partBuckets}
-use Rattle.index.specs.declared.Decision.{Decision}
-use Rattle.index.specs.steps.Decided.{WithoutSlot, Decided, RefusesBy}
+use Rattle.index.specs.Refusals.{earlyOf, lateOf, probedFor, refusalAfter, refusalBySlots, earlyRefusal, lateRefusal}
+use Rattle.index.specs.steps.Decided.{WithoutSlot, InBounds, Decided}
 use Rattle.index.proofs.Probing.{probe-first}
-use Rattle.index.proofs.Contains.{PutProbe, put-probe, long-absent}
-use Rattle.index.proofs.PutRefusals.{EarlyPassed, LatePassed, early-passed, early-due, duplicate-due, late-due, by-refusal, by-full, by-on, by-spare}
+
+-- ---- what a check that is passed says
+
+-- the checks before the search
+pub record EarlyPassed (w : CQDBWriter) (buf name : List ℕ) : Type 0 where
+  pub buffer : InBuffer w buf
+  pub short : length name < 4294967295
+
+pub early-passed : (w : CQDBWriter) (buf name : List ℕ) → earlyRefusal w buf name ≡ 0 → EarlyPassed w buf name
+unfolding earlyRefusal
+early-passed w buf name h = by-checks (inBuffer w buf) (hasZero name) (ltb 4294967294 (length name)) refl refl h
+  where
+    by-checks : (b z l : Bool) → inBuffer w buf ≡ b → ltb 4294967294 (length name) ≡ l → _≡_ {A = ℕ} (cond (not b) 2 (cond z 13 (cond l 3 0))) 0
+        → EarlyPassed w buf name
+    by-checks true false false p q h = let long = ltb-false 4294967294 (length name) q in record { buffer = buffer-of w buf p; short = omega (arith, long) }
+    by-checks true false true p q h = absurd (omega arith)
+    by-checks true true l p q h = absurd (omega arith)
+    by-checks false z l p q h = absurd (omega arith)
+
+-- those after it
+pub record LatePassed (w : CQDBWriter) (counts : List ℕ) (n id h : ℕ) : Type 0 where
+  pub fine : tooLarge (w .length) (finishedSize (writerAfterPut w n id)) ≡ false
+  pub count : getD counts (tableOf h) 0 < 4294967295
+
+pub late-passed : (w : CQDBWriter) (counts : List ℕ) (n id h : ℕ) → lateRefusal w counts n id h ≡ 0 → LatePassed w counts n id h
+unfolding lateRefusal
+late-passed w counts n id h e =
+    by-checks (tooLarge (w .length) (finishedSize (writerAfterPut w n id))) (ltb 4294967294 (getD counts (tableOf h) 0)) refl refl e
+  where
+    by-checks : (t c : Bool) → tooLarge (w .length) (finishedSize (writerAfterPut w n id)) ≡ t → ltb 4294967294 (getD counts (tableOf h) 0) ≡ c
+        → _≡_ {A = ℕ} (cond t 3 (cond c 2 0)) 0 → LatePassed w counts n id h
+    by-checks false false p q e =
+        let small = ltb-false 4294967294 (getD counts (tableOf h) 0) q in
+        record { fine = p; count = omega (arith, small) }
+    by-checks false true p q e = absurd (omega arith)
+    by-checks true c p q e = absurd (omega arith)
 
 -- an entry whose image has room has room
 entry-room : (w : CQDBWriter) (n id len : ℕ) → w .length ≡ len → tooLarge (w .length) (finishedSize (writerAfterPut w n id)) ≡ false → w .end + (n + 9) ≤ len
@@ -47,12 +79,10 @@ append-pre {s} {e} early late hash =
     record {
       hash = hash;
       count = late .count;
-      entry = entry-room (s .writer) (length (e .name)) (e .id) (length (s .buffer)) (early .same-length) (late .fine);
+      entry = entry-room (s .writer) (length (e .name)) (e .id) (length (s .buffer)) (early .buffer .same-length) (late .fine);
       short = early .short;
       size = not-too-large (s .writer .length) (finishedSize (writerAfterPut (s .writer) (length (e .name)) (e .id))) (late .fine) .1;
     }
-
--- ---- for whatever is lent
 
 module _ (s : State) (words : List ℕ) (e : Entry) where
   abbrev k : ℕ
@@ -61,181 +91,67 @@ module _ (s : State) (words : List ℕ) (e : Entry) where
   abbrev m : ℕ
   m = slotCount words
 
+  abbrev late : ℕ
+  late = lateOf s e
+
+  abbrev first : ℕ
+  first = firstEmptySlot words (hashOf (e .name))
+
   pub slots-early : (earlyOf s e ≡ 0 → ⊥) → earlyOf s e ≡ refusalBySlots s words e
   unfolding refusalBySlots
   slots-early some = rw (ne-eqb (earlyOf s e) 0 some) refl
 
-  module _ (passed : earlyOf s e ≡ 0) where
-    searched : cond (seeks s) (refusalAfter s words e (probedFor s words e)) (lateOf s e) ≡ refusalBySlots s words e
-    unfolding refusalBySlots
-    searched = rw (eq-eqb (earlyOf s e) 0 passed) refl
-
-    pub slots-on : seeks s ≡ false → lateOf s e ≡ refusalBySlots s words e
-    slots-on on = sym (ap (λ (b : Bool). cond b (refusalAfter s words e k) (lateOf s e)) on) ∙ searched
-
-    module _ (off : seeks s ≡ true) where
-      sought : refusalAfter s words e (probedFor s words e) ≡ refusalBySlots s words e
-      sought = sym (ap (λ (b : Bool). cond b (refusalAfter s words e k) (lateOf s e)) off) ∙ searched
-
-      pub slots-duplicate : slotCount words < probedFor s words e → 16 ≡ refusalBySlots s words e
-      slots-duplicate l =
-          sym (ap (λ (b : Bool). cond b 16 (cond (eqb (lateOf s e) 0) (cond (eqb k m) 24 0) (lateOf s e))) (lt-ltb m k l)) ∙ sought
-
-      module _ (new : probedFor s words e ≤ slotCount words) where
-        behind : cond (eqb (lateOf s e) 0) (cond (eqb (probedFor s words e) (slotCount words)) 24 0) (lateOf s e) ≡ refusalBySlots s words e
-        behind = sym (ap (λ (b : Bool). cond b 16 (cond (eqb (lateOf s e) 0) (cond (eqb k m) 24 0) (lateOf s e))) (le-ltb m k new)) ∙ sought
-
-        pub slots-late : (lateOf s e ≡ 0 → ⊥) → lateOf s e ≡ refusalBySlots s words e
-        slots-late some = sym (ap (λ (b : Bool). cond b (cond (eqb k m) 24 0) (lateOf s e)) (ne-eqb (lateOf s e) 0 some)) ∙ behind
-
-        module _ (none : lateOf s e ≡ 0) where
-          last : cond (eqb (probedFor s words e) (slotCount words)) 24 0 ≡ refusalBySlots s words e
-          last = sym (ap (λ (b : Bool). cond b (cond (eqb k m) 24 0) (lateOf s e)) (eq-eqb (lateOf s e) 0 none)) ∙ behind
-
-          pub slots-full : probedFor s words e ≡ slotCount words → 24 ≡ refusalBySlots s words e
-          slots-full is = sym (ap (λ (b : Bool). cond {A = ℕ} b 24 0) (eq-eqb k m is)) ∙ last
-
-          pub slots-none : probedFor s words e < slotCount words → 0 ≡ refusalBySlots s words e
-          slots-none below = sym (ap (λ (b : Bool). cond {A = ℕ} b 24 0) (ne-eqb k m (λ z. omega (arith, z, below)))) ∙ last
-
-  -- a slot below their number is the first empty one
-  pub first-slot : probedFor s words e < slotCount words → probedFor s words e ≡ firstEmptySlot words (hashOf (e .name))
-  first-slot l = probe-first words (hashOf (e .name)) (hasNameAt (take (s .writer .end) (s .buffer)) (e .name)) l
-
-  -- k is the result of the search, or the number of slots where no name is sought
+  -- r is the result of the search, or the number of slots where no name is sought
   module _ (passed : earlyOf s e ≡ 0) {r : ℕ} (is : r ≡ cond (seeks s) (probedFor s words e) (slotCount words)) where
-    by-search : seeks s ≡ true → r ≡ probedFor s words e
-    by-search off = is ∙ ap (λ (b : Bool). cond b (probedFor s words e) (slotCount words)) off
-
-    without-search : seeks s ≡ false → r ≡ slotCount words
-    without-search on = is ∙ ap (λ (b : Bool). cond b (probedFor s words e) (slotCount words)) on
-
-    by-choice : {X : Type 0} → (seeks s ≡ true → X) → (seeks s ≡ false → X) → X
-    by-choice {X} first second = decide-by (seeks s) refl
+    behind : cond (ltb m r) 16 (cond (eqb late 0) (cond (eqb r m) (cond (seeks s) 24 0) 0) late) ≡ refusalBySlots s words e
+    unfolding refusalBySlots
+    behind = rw (eq-eqb (earlyOf s e) 0 passed) (by-choice (seeks s) is)
       where
-        decide-by : (b : Bool) → seeks s ≡ b → X
-        decide-by true off = first off
-        decide-by false on = second on
+        zero-or : Dec (late ≡ 0) → cond (eqb late 0) 0 late ≡ late
+        zero-or (yes z) = rw (eq-eqb late 0 z) (sym z)
+        zero-or (no z) = rw (ne-eqb late 0 z) refl
+
+        by-choice : (b : Bool) → r ≡ cond b k m
+            → cond (ltb m r) 16 (cond (eqb late 0) (cond (eqb r m) (cond b 24 0) 0) late) ≡ cond b (refusalAfter s words e k) late
+        by-choice true at = ap (refusalAfter s words e) at
+        by-choice false at = rw (le-ltb m r (omega (arith, at)), eq-eqb r m at) (zero-or (ℕ-discrete late 0))
 
     pub search-duplicate : slotCount words < r → 16 ≡ refusalBySlots s words e
-    search-duplicate l =
-        by-choice (λ off. slots-duplicate passed off (omega (arith, l, by-search off))) (λ on. absurd (omega (arith, l, without-search on)))
+    search-duplicate l = rw (lt-ltb m r l) at behind
 
     module _ (new : r ≤ slotCount words) where
       pub search-late : (lateOf s e ≡ 0 → ⊥) → lateOf s e ≡ refusalBySlots s words e
-      search-late some = by-choice (λ off. slots-late passed off (omega (arith, new, by-search off)) some) (λ on. slots-on passed on)
+      search-late some = rw (le-ltb m r new, ne-eqb late 0 some) at behind
 
       module _ (none : lateOf s e ≡ 0) where
+        number-is : cond (eqb r m) (cond (seeks s) 24 0) 0 ≡ refusalBySlots s words e
+        number-is = rw (le-ltb m r new, eq-eqb late 0 none) at behind
+
         -- a slot below their number is the first empty one, and is found by a search alone
         pub search-slot : {h : ℕ} {d : Decision} → AppendPre s e h → r < slotCount words → d .refusal ≡ 0 → d .slot ≡ r → Decided s words e h d
-        search-slot stores below zero slot =
-            let sought : seeks s ≡ false → ⊥ = λ on. omega (arith, below, without-search on) in
+        search-slot stores below accepted slot =
             record {
-              number = by-choice (λ off. zero ∙ slots-none passed off (omega (arith, new, by-search off)) none (omega (arith, below, by-search off)))
-                  (λ on. absurd (sought on));
-              bounds = λ z. record {
-                inside = λ off. omega (arith, slot, below);
-                first = λ off. slot ∙ by-search off ∙ first-slot (omega (arith, below, by-search off));
-                none = λ on. absurd (sought on);
-                stores = stores;
-              };
+              number = accepted ∙ (rw (ne-eqb r m (λ z. omega (arith, z, below))) at number-is);
+              bounds = λ z. record { inside = λ off. omega (arith, slot, below); slot = slot ∙ by-choice (seeks s) is; stores = stores };
             }
+          where
+            by-choice : (b : Bool) → r ≡ cond b k m → r ≡ cond b first m
+            by-choice true at =
+                at ∙ probe-first words (hashOf (e .name)) (hasNameAt (take (s .writer .end) (s .buffer)) (e .name)) (omega (arith, at, below))
+            by-choice false at = at
 
         pub search-end : {h : ℕ} {d : Decision} → AppendPre s e h → r ≡ slotCount words → WithoutSlot (seeks s) (slotCount words) d → Decided s words e h d
         search-end {h} {d} stores at-end given =
-            by-choice {X = Decided s words e h d}
-            (λ off. record {
-              number = given .refused off ∙ slots-full passed off (omega (arith, new, by-search off)) none (sym (by-search off) ∙ at-end);
-              bounds = λ z. absurd (omega (arith, z, given .refused off));
-            })
-            (λ on. record {
-              number = given .accepted on .0 ∙ sym none ∙ slots-on passed on;
-              bounds = λ z. record {
-                inside = λ off. absurd (false-not-true (sym on ∙ off));
-                first = λ off. absurd (false-not-true (sym on ∙ off));
-                none = λ also. given .accepted on .1;
-                stores = stores;
-              };
-            })
-
--- ---- by an index: the rule's
-
-module _ (s : State) (words : List ℕ) (e : Entry) (bytes : AllBytes (s .buffer)) where
-  abbrev Rule : ℕ → Type 0
-  Rule n = RefusesBy s words e n
-
-  early-refuses : (earlyOf s e ≡ 0 → ⊥) → Rule (earlyOf s e)
-  early-refuses some from closable part own =
-      let absent : 4294967295 ≤ length (e .name) → repeated s (e .name) ≡ false =
-      λ long. ap (λ (b : Bool). b && seeks s) (long-absent s bytes (closable .closes) (e .name) long) in
-      by-refusal (length (partBuckets from (recorded s))) s words e (earlyOf s e) (early-due closable e absent some) some
-
-  module _ (free : hasZero (e .name) ≡ false) where
-    -- no name is sought
-    module _ (on : seeks s ≡ false) where
-      not-repeated : repeated s (e .name) ≡ false
-      not-repeated = ap (λ (b : Bool). containsName (e .name) (recorded s) && b) on ∙ and-false (containsName (e .name) (recorded s))
-
-      late-alone : Rule (lateOf s e)
-      late-alone from closable part own =
-          late-due closable e free (hashOf (e .name)) not-repeated ∙ sym (by-on (length (partBuckets from (recorded s))) s words e on)
-
-    module _ (off : seeks s ≡ true) where
-      says : {from : ℕ} (closable : Closable s) (part : PartIndex from s words) → from ≤ tableOf (hashOf (e .name))
-          → PutProbe bytes (closable .closes) off part (e .name) (probedFor s words e)
-      says closable part own = put-probe bytes (closable .closes) off part (e .name) own
-
-      found-duplicate : slotCount words < probedFor s words e → Rule 16
-      found-duplicate l from closable part own =
-          by-refusal (length (partBuckets from (recorded s))) s words e 16
-          (duplicate-due closable e free (ap₂ (λ (a b : Bool). a && b) (says closable part own .found l) off)) (λ z. omega arith)
-
-      -- where the name is no duplicate, the checks that follow
-      module _ (new : probedFor s words e ≤ slotCount words) where
-        due : {from : ℕ} (closable : Closable s) (part : PartIndex from s words) → from ≤ tableOf (hashOf (e .name)) → lateOf s e ≡ putRefusal s e
-        due closable part own =
-            late-due closable e free (hashOf (e .name)) (ap (λ (b : Bool). b && seeks s) (says closable part own .absent new))
-
-        late-refuses : (lateOf s e ≡ 0 → ⊥) → Rule (lateOf s e)
-        late-refuses some from closable part own =
-            by-refusal (length (partBuckets from (recorded s))) s words e (lateOf s e) (due closable part own) some
-
-        module _ (none : lateOf s e ≡ 0) where
-          none-free : probedFor s words e ≡ slotCount words → Rule 24
-          none-free z from closable part own =
-              by-full (length (partBuckets from (recorded s))) s words e (sym none ∙ due closable part own) off (says closable part own .full z)
-
-          accepts : probedFor s words e < slotCount words → Rule 0
-          accepts l from closable part own =
-              sym none ∙ due closable part own ∙ sym (by-spare (length (partBuckets from (recorded s))) s words e (says closable part own .spare l))
-
-  pub slots-by-rule : RefusesBy s words e (refusalBySlots s words e)
-  slots-by-rule = by-early (ℕ-discrete (earlyOf s e) 0)
-    where
-      free : earlyOf s e ≡ 0 → hasZero (e .name) ≡ false
-      free passed = early-passed (s .writer) (s .buffer) (e .name) passed .zero-free
-
-      by-full-or-none : (passed : earlyOf s e ≡ 0) (off : seeks s ≡ true) (new : probedFor s words e ≤ slotCount words) (none : lateOf s e ≡ 0)
-          → Dec (probedFor s words e ≡ slotCount words) → Rule (refusalBySlots s words e)
-      by-full-or-none passed off new none (yes z) =
-          subst Rule (slots-full s words e passed off new none z) (none-free (free passed) off new none z)
-      by-full-or-none passed off new none (no z) =
-          let below : probedFor s words e < slotCount words = omega (arith, new, z) in
-          subst Rule (slots-none s words e passed off new none below) (accepts (free passed) off new none below)
-
-      by-late : (passed : earlyOf s e ≡ 0) (off : seeks s ≡ true) (new : probedFor s words e ≤ slotCount words) → Dec (lateOf s e ≡ 0)
-          → Rule (refusalBySlots s words e)
-      by-late passed off new (yes z) = by-full-or-none passed off new z (ℕ-discrete (probedFor s words e) (slotCount words))
-      by-late passed off new (no n) = subst Rule (slots-late s words e passed off new n) (late-refuses (free passed) off new n)
-
-      by-search : (passed : earlyOf s e ≡ 0) (off : seeks s ≡ true) → Dec (slotCount words < probedFor s words e) → Rule (refusalBySlots s words e)
-      by-search passed off (yes l) = subst Rule (slots-duplicate s words e passed off l) (found-duplicate (free passed) off l)
-      by-search passed off (no l) = by-late passed off (omega (arith, l)) (ℕ-discrete (lateOf s e) 0)
-
-      by-choice : (passed : earlyOf s e ≡ 0) (b : Bool) → seeks s ≡ b → Rule (refusalBySlots s words e)
-      by-choice passed true off = by-search passed off (decLt (slotCount words) (probedFor s words e))
-      by-choice passed false on = subst Rule (slots-on s words e passed on) (late-alone (free passed) on)
-
-      by-early : Dec (earlyOf s e ≡ 0) → Rule (refusalBySlots s words e)
-      by-early (yes z) = by-choice z (seeks s) refl
-      by-early (no n) = subst Rule (slots-early s words e n) (early-refuses n)
+            record {
+              number = given .number ∙ (rw (eq-eqb r m at-end) at number-is);
+              bounds = λ z. by-choice (seeks s) refl (sym (given .number) ∙ z) (given .slot z);
+            }
+          where
+            by-choice : (b : Bool) → seeks s ≡ b → _≡_ {A = ℕ} (cond b 24 0) 0 → d .slot ≡ m → InBounds s words e h (d .slot)
+            by-choice true off z at = absurd (omega arith)
+            by-choice false on z at =
+                record {
+                  inside = λ off. absurd (false-not-true (sym on ∙ off));
+                  slot = at ∙ sym (ap (λ (b : Bool). cond b first m) on);
+                  stores = stores;
+                }

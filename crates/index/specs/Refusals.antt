@@ -1,27 +1,23 @@
 -- The refusal of a put by whatever slots are lent: the checks of a put, in their order. By a right index it is
 -- `indexedRefusal` (`PutIndexed`).
 use Prim.Native.Nat.{ℕ}
-use mathlib.Core.Bool.{Bool, cond, not, _&&_}
+use mathlib.Core.Bool.{cond, not}
 use mathlib.Core.List.{List}
 use lib.ListN.{length, getD, take}
-use lib.Dec.{eqb, leb, ltb}
+use lib.Dec.{eqb, ltb}
 use Rattle.jhash.specs.NameHash.{hashOf}
 use Rattle.image.specs.Tables.{tableOf}
-use Rattle.image.specs.Image.{Entry, headSize}
+use Rattle.image.specs.Image.{Entry}
 use Rattle.image.specs.Zero.{hasZero}
 use Rattle.writer.specs.declared.CQDBWriter.{CQDBWriter}
-use Rattle.writer.specs.State.{State, finishedSize, tooLarge}
+use Rattle.writer.specs.State.{State, inBuffer, finishedSize, tooLarge}
 use Rattle.writer.specs.Put.{writerAfterPut}
 use Rattle.index.specs.Index.{slotCount, seeks}
 use Rattle.index.specs.Probe.{hasNameAt, probeSlots}
 use Rattle.jhash.specs.Refusals as refused
 
--- has the record this buffer's length, and an end from 2,072 to that length? Counts are not compared
-abbrev pub inBuffer : CQDBWriter → List ℕ → Bool
-inBuffer w buf = eqb (w .length) (length buf) && leb headSize (w .end) && leb (w .end) (w .length)
-
--- before the search for the name: 2 for a record of another buffer, 13 for a zero byte in the name, 3 for a name that
--- is too long to have a hash
+-- before the search for the name: 2 for a record of another buffer (counts are not compared), 13 for a zero byte in the
+-- name, 3 for a name that is too long to have a hash
 unfoldable pub earlyRefusal : CQDBWriter → List ℕ → List ℕ → ℕ
 earlyRefusal w buf name =
     cond (not (inBuffer w buf)) refused.unfit

@@ -1,5 +1,3 @@
 -- What describes the steps of code. No rule stands here, and nobody has to believe it: proofs/ joins it to the rules.
-pub mod Checks
-pub mod Part
 pub mod Decided
 pub mod Fill

@@ -1,39 +1,31 @@
 // The index of the names that a buffer holds, in lent words, and a put that probes it: with repeats off it compares the
 // name only with entries whose hash is equal, where `writer::put` walks all earlier ones.
 ghost use mathlib.Core.Path.{_≡_};
+ghost use Rattle.jhash.specs.NameHash.{hashOrZero};
 ghost use Rattle.writer.specs.State.{stateWith, refusesRepeats};
 ghost use Rattle.writer.specs.Put.{entryOf};
 ghost use Rattle.index.specs.Promise.{PutIndexed, Indexed};
-ghost use Rattle.index.specs.steps.Checks.{FactsOf};
-ghost use Rattle.index.specs.steps.Decided.{WithoutSlot, Decided, PutHashed, PutNew};
+ghost use Rattle.index.specs.steps.Decided.{WithoutSlot, Decided};
 ghost use Rattle.index.specs.steps.Fill.{FillPre, SlotsFilled};
-use checks::append;
 use checks::early_refusal;
 use checks::late_refusal;
-use checks::new_refusal;
 use image::HEAD_SIZE;
 use image::entries::name_at;
 use image::entries::whole_length;
 use image::scratch::clear_words;
 use jhash::refusals::INDEX_FULL;
 use jhash::refusals::REPEATED;
-use slots::first_empty;
+use slots::first_empty_slot;
 use slots::search;
 use slots::store_if_slot;
 use slots::store_slot;
 use writer::CQDBWriter;
 use writer::RecordAnswer;
 use writer::Repeats;
+use writer::entry::append;
 
-mod checks; // checks.rt: what a put checks beside the search, and what it stores
+mod checks; // checks.rt: what a put checks beside the search
 mod slots; // slots.rt: slots probed and stored
-
-// What the caller of a put knows of its name: the hash, unless the name is too long to have one, and whether it is
-// known to have no zero byte.
-pub struct NameFacts {
-    pub hash: u32,
-    pub clean: bool,
-}
 
 // The refusal of a put, 0 where it is accepted, and then the slot that it takes, or the number of slots for none.
 struct Decision {
@@ -72,7 +64,7 @@ fn without_slot(sought: bool, m: usize) -> Decision
     }
 }
 
-// All checks of a put, with the bounds that its stores need: what is lent may be anything.
+// All checks of a put of a name with hash h, with the bounds that its stores need: what is lent may be anything.
 fn decide(
     w: CQDBWriter,
     counts: &[u32; 256],
@@ -80,16 +72,15 @@ fn decide(
     slots: &[u32],
     name: &[u8],
     id: u32,
-    facts: NameFacts,
+    h: u32,
 ) -> Decision
-    requires { ⌜ FactsOf (now name) facts ⌝ }
+    requires { ⌜ h ≡ hashOrZero (now name) ⌝ }
     ensures { λ r. ⌜
         Decided (stateWith w (now (counts .entry)) (now (buf .entry))) (now (slots .entry))
-        (entryOf (now (name .entry)) id) (facts .hash) r
+        (entryOf (now (name .entry)) id) h r
         ⌝ }
 {
-    let h = facts.hash;
-    let early = early_refusal(w, buf, name, facts.clean);
+    let early = early_refusal(w, buf, name);
     if early != 0 {
         return refused(early);
     }
@@ -115,59 +106,6 @@ fn decide(
 
 // Appends an entry and with repeats off stores its slot, or is refused and changes nothing. By a right index it does
 // what put does.
-pub fn put_hashed(
-    w: CQDBWriter,
-    counts: &mut [u32; 256],
-    buf: &mut [u8],
-    slots: &mut [u32],
-    name: &[u8],
-    id: u32,
-    facts: NameFacts,
-) -> RecordAnswer
-    requires { ⌜ FactsOf (now name) facts ⌝ }
-    ensures { λ r. ⌜
-        PutHashed (stateWith w (now (counts .entry)) (now (buf .entry))) (now (slots .entry))
-        (entryOf (now (name .entry)) id) (r .refusal)
-        (stateWith (r .writer) (now (counts .exit)) (now (buf .exit))) (now (slots .exit))
-        ⌝ }
-{
-    let h = facts.hash;
-    let d = decide(w, &*counts, &*buf, &*slots, name, id, facts);
-    let refusal = d.refusal;
-    if refusal != 0 {
-        return RecordAnswer { refusal, writer: w };
-    }
-    store_if_slot(&mut *slots, d.slot, h, w.end as u32);
-    let writer = append(w, &mut *counts, &mut *buf, name, id, h);
-    RecordAnswer { refusal: 0, writer }
-}
-
-// A put of a name that is no duplicate, as the caller knows: no earlier name is equal, or repeats are on. It looks at
-// no entry, and of the counts at one.
-pub fn put_new(
-    w: CQDBWriter,
-    counts: &mut [u32; 256],
-    buf: &mut [u8],
-    name: &[u8],
-    id: u32,
-    facts: NameFacts,
-) -> RecordAnswer
-    requires { ⌜ FactsOf (now name) facts ⌝ }
-    ensures { λ r. ⌜
-        PutNew (stateWith w (now (counts .entry)) (now (buf .entry))) (entryOf (now (name .entry)) id) (r .refusal)
-        (stateWith (r .writer) (now (counts .exit)) (now (buf .exit)))
-        ⌝ }
-{
-    let refusal = new_refusal(w, &*counts, &*buf, name, id, facts);
-    if refusal != 0 {
-        return RecordAnswer { refusal, writer: w };
-    }
-    let h = facts.hash;
-    let writer = append(w, &mut *counts, &mut *buf, name, id, h);
-    RecordAnswer { refusal: 0, writer }
-}
-
-// A put by the index of a name of which nothing is known.
 pub fn put_indexed(
     w: CQDBWriter,
     counts: &mut [u32; 256],
@@ -182,11 +120,15 @@ pub fn put_indexed(
         (stateWith (r .writer) (now (counts .exit)) (now (buf .exit))) (now (slots .exit))
         ⌝ }
 {
-    let facts = NameFacts {
-        hash: jhash::hash_or_zero(name),
-        clean: false,
-    };
-    put_hashed(w, &mut *counts, &mut *buf, &mut *slots, name, id, facts)
+    let h = jhash::hash_or_zero(name);
+    let d = decide(w, &*counts, &*buf, &*slots, name, id, h);
+    let refusal = d.refusal;
+    if refusal != 0 {
+        return RecordAnswer { refusal, writer: w };
+    }
+    store_if_slot(&mut *slots, d.slot, h, w.end as u32);
+    let writer = append(w, &mut *counts, &mut *buf, name, id, h);
+    RecordAnswer { refusal: 0, writer }
 }
 
 // Inserts the entries of the buffer into empty slots, in put order. Internal: the caller knows that the entries are
@@ -205,7 +147,7 @@ fn fill(buf: &[u8], end: usize, entries: u32, slots: &mut [u32])
         let jhash::Hashed::Hash(h) = jhash::name_hash(name_at(buf, at, n)) else {
             return;
         };
-        let k = first_empty(&*slots, h);
+        let k = first_empty_slot(&*slots, h);
         store_slot(&mut *slots, k, h, at as u32);
         at += 8 + n;
         left -= 1;

@@ -79,7 +79,7 @@ pub(super) fn search(sought: bool, bytes: &[u8], slots: &[u32], h: u32, name: &[
 
 // The probe without a name, for making the index. A function of its own, since `probe` with two callers is not
 // inlined, which costs 4 % of a put.
-pub(super) fn first_empty(slots: &[u32], h: u32) -> usize
+pub(super) fn first_empty_slot(slots: &[u32], h: u32) -> usize
     ensures { λ r. ⌜ r ≡ probeSlots (now (slots .entry)) h (λ (a : ℕ). false) ⌝ }
 {
     let m = slots.len() / 2;

@@ -2,39 +2,37 @@
 use Prim.Native.Nat.{ℕ, _+_, _*_, _^_, _≤_, _<_, max}
 use native.Mathlib.Omega.{arith}
 use mathlib.Core.Path.{_≡_}
-use mathlib.Core.Bool.{Bool, true, false, _&&_}
+use mathlib.Core.Bool.{true, false, _&&_}
 use mathlib.Core.List.{List}
 use lib.ListN.{length}
 use lib.Dec.{eqb, leb, ltb}
-use borrow.Author.Tests.{eq-eqb, ne-eqb, le-leb, lt-leb, eqb-true, leb-true, ltb-false}
+use borrow.Author.Tests.{eqb-true, leb-true, ltb-false}
 use Rattle.image.specs.Image.{headSize, backIn}
 use Rattle.image.specs.declared.Mode.{Mode}
 use Rattle.image.specs.declared.Mode.the-variants.{Twoway, Oneway}
 use Rattle.image.proofs.Bools.{and-first, and-second, or-false-first, or-false-second}
-use Rattle.writer.specs.State.{stateWith, noneAbove, fits, tooLarge}
+use Rattle.writer.specs.State.{stateWith, noneAbove, inBuffer, fits, tooLarge}
 use Rattle.writer.specs.Put.{backAfter}
 use Rattle.writer.specs.steps.Earlier.{EndInside}
 use Rattle.writer.specs.declared.CQDBWriter.{CQDBWriter}
 
-module _ (w : CQDBWriter) (counts buf : List ℕ) where
-  -- the checks in their order
-  pub other-length : (w .length ≡ length buf → ⊥) → false ≡ fits (stateWith w counts buf)
-  unfolding fits
-  other-length h = rw (ne-eqb (w .length) (length buf) h)
+-- what it means that a record has this buffer's length and an end inside
+pub record InBuffer (w : CQDBWriter) (buf : List ℕ) : Type 0 where
+  pub same-length : w .length ≡ length buf
+  pub low : headSize ≤ w .end
+  pub high : w .end ≤ w .length
 
-  pub end-low : w .length ≡ length buf → w .end < headSize → false ≡ fits (stateWith w counts buf)
-  unfolding fits
-  end-low p h = rw (eq-eqb (w .length) (length buf) p, lt-leb headSize (w .end) h)
-
-  pub end-high : w .length ≡ length buf → headSize ≤ w .end → w .length < w .end → false ≡ fits (stateWith w counts buf)
-  unfolding fits
-  end-high p q h = rw (eq-eqb (w .length) (length buf) p, le-leb headSize (w .end) q, lt-leb (w .end) (w .length) h)
-
-  pub by-counts : w .length ≡ length buf → headSize ≤ w .end → w .end ≤ w .length
-      → (b : Bool) → b ≡ noneAbove counts (w .entries) → b ≡ fits (stateWith w counts buf)
-  unfolding fits
-  by-counts p q r b h =
-      rw (eq-eqb (w .length) (length buf) p, le-leb headSize (w .end) q, le-leb (w .end) (w .length) r) h
+pub buffer-of : (w : CQDBWriter) (buf : List ℕ) → inBuffer w buf ≡ true → InBuffer w buf
+buffer-of w buf h =
+    let a = eqb (w .length) (length buf) in
+    let b = leb headSize (w .end) in
+    let c = leb (w .end) (w .length) in
+    let ab = and-first (a && b) c h in
+    record {
+      same-length = eqb-true (w .length) (length buf) (and-first a b ab);
+      low = leb-true headSize (w .end) (and-second a b ab);
+      high = leb-true (w .end) (w .length) (and-second (a && b) c h);
+    }
 
 -- what it means that a record fits
 pub record Fitting (w : CQDBWriter) (counts buf : List ℕ) : Type 0 where
@@ -46,17 +44,13 @@ pub record Fitting (w : CQDBWriter) (counts buf : List ℕ) : Type 0 where
 pub fitting : (w : CQDBWriter) (counts buf : List ℕ) → fits (stateWith w counts buf) ≡ true → Fitting w counts buf
 unfolding fits
 fitting w counts buf h =
-    let a = eqb (w .length) (length buf) in
-    let b = leb headSize (w .end) in
-    let c = leb (w .end) (w .length) in
     let d = noneAbove counts (w .entries) in
-    let abc = and-first (a && b && c) d h in
-    let ab = and-first (a && b) c abc in
+    let inside = buffer-of w buf (and-first (inBuffer w buf) d h) in
     record {
-      same-length = eqb-true (w .length) (length buf) (and-first a b ab);
-      low = leb-true headSize (w .end) (and-second a b ab);
-      high = leb-true (w .end) (w .length) (and-second (a && b) c abc);
-      none = and-second (a && b && c) d h;
+      same-length = inside .same-length;
+      low = inside .low;
+      high = inside .high;
+      none = and-second (inBuffer w buf) d h;
     }
 
 pub end-inside : {w : CQDBWriter} {counts buf : List ℕ} → Fitting w counts buf → EndInside w buf

@@ -32,14 +32,13 @@ abbrev pub refusesRepeats : Repeats → Bool
 refusesRepeats Off = true
 refusesRepeats On = false
 
--- the record fits (01's term) a buffer when the lengths agree, 2,072 ≤ end ≤ length, and no table count exceeds the
--- number of entries
+-- the lengths of record and buffer agree, and 2,072 ≤ end ≤ length
+abbrev pub inBuffer : CQDBWriter → List ℕ → Bool
+inBuffer w buffer = eqb (w .length) (length buffer) && leb headSize (w .end) && leb (w .end) (w .length)
+
+-- the record fits (01's term) a buffer when that holds, and no table count exceeds the number of entries
 unfoldable pub fits : State → Bool
-fits s =
-    eqb (s .writer .length) (length (s .buffer))
-    && leb headSize (s .writer .end)
-    && leb (s .writer .end) (s .writer .length)
-    && noneAbove (s .counts) (s .writer .entries)
+fits s = inBuffer (s .writer) (s .buffer) && noneAbove (s .counts) (s .writer .entries)
 
 -- the finished size (01's term): end + 16 × entries + 4 × back size, the back term 0 in one-way mode
 abbrev pub finishedSize : CQDBWriter → ℕ

@@ -17,7 +17,7 @@ use jhash::refusals::ZERO_BYTE;
 
 pub mod c_record; // c_record.rt: the writer record as C has it
 mod check;
-pub mod entry; // entry.rt: store
+pub mod entry; // entry.rt: an entry stored and appended
 pub mod numbers; // numbers.rt: the numbers by which C names a mode and the choice of repeats
 pub mod record; // record.rt: the numbers of the record after a put
 
@@ -107,9 +107,8 @@ fn put_refusal(w: CQDBWriter, counts: &[u32; 256], buf: &[u8], name: &[u8], id: 
     0
 }
 
-// What an accepted put does: it appends an entry (id, name length plus 1, the name, one zero byte) and raises the
-// counts.
-fn append(
+// What an accepted put does: it hashes the name and appends its entry.
+fn hash_and_append(
     w: CQDBWriter,
     counts: &mut [u32; 256],
     buf: &mut [u8],
@@ -125,9 +124,7 @@ fn append(
     let jhash::Hashed::Hash(h) = jhash::name_hash(name) else {
         return w;
     };
-    image::entries::raise(&mut *counts, h);
-    entry::store(&mut *buf, w.end as usize, name, id);
-    record::writer_after_put(w, name.len(), id)
+    entry::append(w, &mut *counts, &mut *buf, name, id, h)
 }
 
 // Appends an entry, or is refused and changes nothing.
@@ -151,7 +148,7 @@ pub fn put(
     if refusal != 0 {
         return RecordAnswer { refusal, writer: w };
     }
-    let writer = append(w, &mut *counts, &mut *buf, name, id);
+    let writer = hash_and_append(w, &mut *counts, &mut *buf, name, id);
     RecordAnswer { refusal: 0, writer }
 }
 

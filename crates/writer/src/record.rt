@@ -1,16 +1,16 @@
 // The writer record: whether it fits a buffer, and its numbers after a put.
 ghost use mathlib.Core.Path.{_≡_};
 ghost use Prim.Native.Nat.{_≤_};
-ghost use Rattle.writer.specs.State.{stateWith, fits, tooLarge, finishedSize};
+ghost use Rattle.writer.specs.State.{stateWith, inBuffer, fits, tooLarge, finishedSize};
 ghost use Rattle.writer.specs.Put.{backAfter, writerAfterPut};
 ghost use Rattle.writer.specs.steps.Storing.{SizeWithPre};
 use super::CQDBWriter;
 use image::HEAD_SIZE_64;
 use image::Mode;
 
-// Whether the record fits the buffer.
-pub(super) fn fits(w: CQDBWriter, counts: &[u32; 256], buf: &[u8]) -> bool
-    ensures { λ r. ⌜ r ≡ fits (stateWith w (now (counts .entry)) (now (buf .entry))) ⌝ }
+// Whether the record has this buffer's length, and an end from 2,072 to that length. Counts are not compared.
+pub fn in_buffer(w: CQDBWriter, buf: &[u8]) -> bool
+    ensures { λ r. ⌜ r ≡ inBuffer w (now (buf .entry)) ⌝ }
 {
     if w.length != buf.len() as u64 {
         return false;
@@ -19,6 +19,16 @@ pub(super) fn fits(w: CQDBWriter, counts: &[u32; 256], buf: &[u8]) -> bool
         return false;
     }
     if w.end > w.length {
+        return false;
+    }
+    true
+}
+
+// Whether the record fits the buffer.
+pub(super) fn fits(w: CQDBWriter, counts: &[u32; 256], buf: &[u8]) -> bool
+    ensures { λ r. ⌜ r ≡ fits (stateWith w (now (counts .entry)) (now (buf .entry))) ⌝ }
+{
+    if !in_buffer(w, buf) {
         return false;
     }
     serialize::counts::none_above(counts, w.entries)

@@ -16,10 +16,10 @@ use Rattle.build.proofs.build_singly.Tie as tie
 
 -- ---- places in the code, each told from a later one
 
-abbrev start : tie.After-index-words → tie.Start
+abbrev start : tie.After-scratch-for-index → tie.Start
 start c = c .before .before .before .before .before .before .before
 
-abbrev sized : tie.After-clear-words → tie.After-index-words
+abbrev sized : tie.After-clear-words → tie.After-scratch-for-index
 sized c = c .before .before .before
 
 abbrev cleared : tie.After-begun → tie.After-clear-words
@@ -33,8 +33,8 @@ begun c = start (sized (cleared (opened c)))
 
 -- ---- what is known at them
 
-slots-long : (c : tie.After-index-words) → let a = start c .args in length (take (c .index-words .result) (a .scratch .now)) ≡ c .index-words .result
-slots-long c = length-take-le (c .index-words .result) (start c .args .scratch .now) (c .index-words .ensures .within)
+slots-long : (c : tie.After-scratch-for-index) → let a = start c .args in length (take (c .scratch-for-index .result) (a .scratch .now)) ≡ c .scratch-for-index .result
+slots-long c = length-take-le (c .scratch-for-index .result) (start c .args .scratch .now) (c .scratch-for-index .ensures .within)
 
 word-ids : (c : tie.After-put-list) → let a = begun c .args in (i : ℕ) → i < length (a .ends .now) → getD (a .ids .now) i 0 < 2 ^ 32
 word-ids c i h = omega (arith, sized (cleared (opened c)) .before .before .before .shared-slice-known3 .given i)
@@ -57,12 +57,12 @@ put-list-requires c κs =
     let i = sized z in
     let s = start i in
     let a = s .args in
-    let long : length (z .clear-words .last .0) ≡ i .index-words .result = z .clear-words .kept .0 ∙ slots-long i in
+    let long : length (z .clear-words .last .0) ≡ i .scratch-for-index .result = z .clear-words .kept .0 ∙ slots-long i in
     record {
       list = s .pre;
       begun = begun-fresh (a .mode) (a .repeats) (a .buf .now) _ _ refl (b .begun .ensures);
-      cleared = all-zero (z .clear-words .last .0) (i .index-words .result) long (z .clear-words .ensures .zero);
-      enough = λ some. omega (arith, i .index-words .ensures .enough (omega (arith, some, long)), long);
+      cleared = all-zero (z .clear-words .last .0) (i .scratch-for-index .result) long (z .clear-words .ensures .zero);
+      enough = λ some. omega (arith, i .scratch-for-index .ensures .enough (omega (arith, some, long)), long);
     }
 
 finish-list-requires : tie.Need-finish-list-requires
@@ -86,7 +86,7 @@ build-singly-spec =
     tie.close
     (tie.spec
     (λ c κs. search needs)
-    (λ c. c .index-words .ensures .within)
+    (λ c. c .scratch-for-index .ensures .within)
     (λ c. sym (slots-long (c .before)))
     (λ c κs. omega (arith, slots-long (c .before .before)))
     (λ c κs. search needs)

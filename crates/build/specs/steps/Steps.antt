@@ -67,7 +67,7 @@ pub record DirectTried (mode : Mode) (repeats : Repeats) (buffer bytes ends ids 
   pub rest : size ≡ 0 → drop (length ends) refusalsThen ≡ drop (length ends) refusals
 
 -- how many words of the scratch memory are the index of n names: none, or at least a slot for each name
-pub record IndexWords (n words r : ℕ) : Type 0 where
+pub record ScratchForIndex (n words r : ℕ) : Type 0 where
   pub within : r ≤ words
   pub enough : 0 < r → n ≤ r / 2
 

@@ -6,17 +6,18 @@ use mathlib.Core.Bool.{Bool, cond}
 use mathlib.Core.List.{List}
 use lib.ListN.{length, take, length-take}
 use Rattle.jhash.specs.NameHash.{hashOf}
+use Rattle.jhash.proofs.Outcomes.{hash-or-zero-short}
 use Rattle.image.specs.Image.{Entry}
 use Rattle.writer.specs.State.{State, stateWith}
 use Rattle.writer.specs.Put.{entryOf}
+use Rattle.writer.specs.steps.Storing.{AppendPre}
 use Rattle.index.specs.declared.Decision.{Decision}
 use Rattle.index.specs.Index.{slotCount, seeks}
 use Rattle.index.specs.Probe.{hasNameAt, probeSlots}
 use Rattle.index.specs.Refusals.{lateRefusal, earlyOf, lateOf, probedFor, refusalBySlots}
-use Rattle.index.specs.steps.Checks.{AppendPre}
 use Rattle.index.specs.steps.Decided.{WithoutSlot, Decided}
-use Rattle.index.proofs.PutRefusals.{EarlyPassed, early-passed, late-passed}
-use Rattle.index.proofs.PutChecks.{append-pre, slots-early, search-duplicate, search-late, search-slot, search-end}
+use Rattle.index.proofs.PutChecks.{EarlyPassed, early-passed, late-passed, append-pre, slots-early}
+use Rattle.index.proofs.PutChecks.{search-duplicate, search-late, search-slot, search-end}
 use borrow.Author.Needs.{needs}
 use Rattle.index.proofs.decide.Statement.{statement}
 use Rattle.index.proofs.decide.Tie as tie
@@ -29,8 +30,8 @@ abbrev E : tie.Start → Entry
 E s = entryOf (s .args .name .now) (s .args .id)
 
 -- a refusal, whatever was lent
-refused-with : {s : State} {words : List ℕ} {e : Entry} {h : ℕ} (d : Decision) (k : ℕ) → d .refusal ≡ k → (k ≡ 0 → ⊥) → k ≡ refusalBySlots s words e
-    → Decided s words e h d
+refused-with : {s : State} {words : List ℕ} {e : Entry} {h : ℕ} (d : Decision) (k : ℕ) → d .refusal ≡ k → (k ≡ 0 → ⊥)
+    → k ≡ refusalBySlots s words e → Decided s words e h d
 refused-with d k is some due = record { number = is ∙ due; bounds = λ z. absurd (some (sym is ∙ z)) }
 
 -- ---- the checks before the probe
@@ -54,7 +55,7 @@ returns c =
 
 slice-aggregate-search : tie.Need-slice-aggregate-search
 slice-aggregate-search c =
-    let p = passed (c .before .before) in
+    let p = passed (c .before .before) .buffer in
     let s = start (c .before .before .before) in
     omega (arith, length-take (S s .writer .end) (S s .buffer), p .same-length, p .high)
 
@@ -67,11 +68,12 @@ abbrev begun : tie.After-search → tie.Start
 begun c = start (early c .before)
 
 -- h is the hash of the name
-hashed : (c : tie.After-search) → begun c .args .facts .hash ≡ hashOf (E (begun c) .name)
-hashed c = begun c .pre .hash (passed (early c) .short)
+hashed : (c : tie.After-search) → begun c .args .h ≡ hashOf (E (begun c) .name)
+hashed c = begun c .pre ∙ hash-or-zero-short (E (begun c) .name) (passed (early c) .short)
 
 -- what the search gives
-searched : (c : tie.After-search) → let s = begun c in c .search .result ≡ cond (seeks (S s)) (probedFor (S s) (s .args .slots .now) (E s)) (slotCount (s .args .slots .now))
+searched : (c : tie.After-search) → let s = begun c in
+    c .search .result ≡ cond (seeks (S s)) (probedFor (S s) (s .args .slots .now) (E s)) (slotCount (s .args .slots .now))
 searched c =
     let s = begun c in
     let words = s .args .slots .now in
@@ -89,7 +91,7 @@ returns-2 c =
 late-refusal-requires : tie.Need-late-refusal-requires
 late-refusal-requires c κs =
     let p = passed (early (c .before)) in
-    record { low = omega (arith, p .high, p .same-length, begun (c .before) .good); short = p .short }
+    record { low = omega (arith, p .buffer .high, p .buffer .same-length, begun (c .before) .good); short = p .short }
 
 -- the name is no duplicate
 new : (c : tie.Else2) → c .before .search .result ≤ slotCount (begun (c .before) .args .slots .now)
@@ -115,13 +117,13 @@ none-late : (c : tie.Else3) → let s = begun (c .before .before .before) in lat
 none-late c = sym (late-is (c .before)) ∙ c .if3 .left
 
 -- so what is stored has room
-stores : (c : tie.Else3) → let s = begun (c .before .before .before) in AppendPre (S s) (E s) (s .args .facts .hash)
+stores : (c : tie.Else3) → let s = begun (c .before .before .before) in AppendPre (S s) (E s) (s .args .h)
 stores c =
     let l = c .before in
     let p = l .before .before in
     let s = begun p in
     append-pre (passed (early p))
-    (late-passed (S s .writer) (S s .counts) (length (E s .name)) (E s .id) (s .args .facts .hash) (sym (l .late-refusal .ensures) ∙ c .if3 .left)) (hashed p)
+    (late-passed (S s .writer) (S s .counts) (length (E s .name)) (E s .id) (s .args .h) (sym (l .late-refusal .ensures) ∙ c .if3 .left)) (hashed p)
 
 returns-4 : tie.Need-returns-4
 returns-4 c =
@@ -130,7 +132,8 @@ returns-4 c =
     let p = l .before .before in
     let s = begun p in
     search-end (S s) (s .args .slots .now) (E s) (none-early (early p)) (searched p) (new (l .before)) (none-late e) (stores e) (c .before .if4 .taken)
-    (subst (λ (b : Bool). WithoutSlot b (slotCount (s .args .slots .now)) (c .without-slot .result)) (p .before .before .seeks .ensures) (c .without-slot .ensures))
+    (subst (λ (b : Bool). WithoutSlot b (slotCount (s .args .slots .now)) (c .without-slot .result)) (p .before .before .seeks .ensures)
+    (c .without-slot .ensures))
 
 returns-5 : tie.Need-returns-5
 returns-5 c =
@@ -144,18 +147,5 @@ returns-5 c =
 pub decide-spec : {M : Type 1} → statement M
 decide-spec =
     tie.close
-    (tie.spec
-    (λ c κs. search needs)
-    (λ c κs. search needs)
-    returns
-    (λ c κs. search needs)
-    slice-aggregate-search
-    (λ c κs. search needs)
-    (λ c κs. search needs)
-    returns-2
-    late-refusal-requires
-    (λ c κs. search needs)
-    returns-3
-    (λ c κs. search needs)
-    returns-4
-    returns-5)
+    (tie.spec (λ c κs. search needs) (λ c κs. search needs) returns (λ c κs. search needs) slice-aggregate-search (λ c κs. search needs)
+    (λ c κs. search needs) returns-2 late-refusal-requires (λ c κs. search needs) returns-3 (λ c κs. search needs) returns-4 returns-5)

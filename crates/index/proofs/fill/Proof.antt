@@ -5,7 +5,7 @@ use mathlib.Core.Path.{sym, subst}
 use denote.Ref.{now}
 use Rattle.jhash.proofs.Outcomes.{result-refused, result-name-hash}
 use Rattle.image.proofs.Between.{entry-room}
-use Rattle.index.proofs.FillSlots.{Filling, EntryRead, filling-start, not-broken, empty-slot, filling-turn, filling-end}
+use Rattle.index.proofs.MakeIndex.{Filling, EntryRead, filling-start, not-broken, empty-slot, filling-turn, filling-end}
 use borrow.Author.Needs.{needs}
 use Rattle.index.proofs.fill.Statement.{statement}
 use Rattle.index.proofs.fill.Tie as tie
@@ -20,22 +20,22 @@ abbrev μ-loop : tie.MeasureT-loop
 abbrev begun : tie.In-loop Inv-loop μ-loop → tie.Start Inv-loop μ-loop
 begun t = t .before .before .before .before
 
-abbrev hashing : tie.After-first-empty Inv-loop μ-loop → tie.After-name-hash Inv-loop μ-loop
+abbrev hashing : tie.After-first-empty-slot Inv-loop μ-loop → tie.After-name-hash Inv-loop μ-loop
 hashing p = p .before .before .before .before .before
 
-abbrev naming : tie.After-first-empty Inv-loop μ-loop → tie.After-name-at Inv-loop μ-loop
+abbrev naming : tie.After-first-empty-slot Inv-loop μ-loop → tie.After-name-at Inv-loop μ-loop
 naming p = hashing p .before
 
-abbrev measuring : tie.After-first-empty Inv-loop μ-loop → tie.After-whole-length Inv-loop μ-loop
+abbrev measuring : tie.After-first-empty-slot Inv-loop μ-loop → tie.After-whole-length Inv-loop μ-loop
 measuring p = naming p .before .before
 
-abbrev turn : tie.After-first-empty Inv-loop μ-loop → tie.In-loop Inv-loop μ-loop
+abbrev turn : tie.After-first-empty-slot Inv-loop μ-loop → tie.In-loop Inv-loop μ-loop
 turn p = measuring p .before
 
-abbrev h : tie.After-first-empty Inv-loop μ-loop → ℕ
+abbrev h : tie.After-first-empty-slot Inv-loop μ-loop → ℕ
 h p = p .before .before .before .h .given .0 .0
 
-read : (p : tie.After-first-empty Inv-loop μ-loop)
+read : (p : tie.After-first-empty-slot Inv-loop μ-loop)
     → EntryRead (begun (turn p) .args .buf .now) (turn p .before .loop .at) (begun (turn p) .args .end) (measuring p .whole-length .result)
     (now (naming p .name-at .result)) (h p)
 read p =
@@ -93,10 +93,10 @@ store-slot-requires : tie.Need-store-slot-requires Inv-loop μ-loop
 store-slot-requires c κs =
     let p = c .before in
     let t = turn p in
-    empty-slot (begun t .pre) (t .before .loop .inv) (t .loop-test .taken) (p .first-empty .result) (h p) (p .first-empty .ensures) .0
+    empty-slot (begun t .pre) (t .before .loop .inv) (t .loop-test .taken) (p .first-empty-slot .result) (h p) (p .first-empty-slot .ensures) .0
 
 -- the probe, from where the entry is inserted
-abbrev probing : tie.After-store-slot Inv-loop μ-loop → tie.After-first-empty Inv-loop μ-loop
+abbrev probing : tie.After-store-slot Inv-loop μ-loop → tie.After-first-empty-slot Inv-loop μ-loop
 probing q = q .before .before
 
 add-at : tie.Need-add-at Inv-loop μ-loop
@@ -123,7 +123,7 @@ loop-again c =
     let l = t .before .loop in
     let next = l .at + (8 + measuring p .whole-length .result) in
     subst (Filling (a .buf .now) (a .end) (a .entries) (a .slots .now) next (l .left - 1)) (sym (q .store-slot .ensures))
-    (filling-turn (begun t .pre) (l .inv) (t .loop-test .taken) (read p) (p .first-empty .ensures))
+    (filling-turn (begun t .pre) (l .inv) (t .loop-test .taken) (read p) (p .first-empty-slot .ensures))
 
 same-length-3 : tie.Need-same-length-3 Inv-loop μ-loop
 same-length-3 c = c .before .loop .inv .long
@@ -134,26 +134,6 @@ returns-3 c = filling-end (c .before .before .before .before .pre) (c .before .l
 pub fill-spec : {M : Type 1} → statement M
 fill-spec =
     tie.close
-    (tie.spec
-    Inv-loop
-    μ-loop
-    loop-holds
-    whole-length-requires
-    same-length
-    returns
-    name-at-requires
-    (λ c κs. search needs)
-    (λ c. search needs)
-    (λ c. search needs)
-    same-length-2
-    returns-2
-    (λ c κs. search needs)
-    cast-store-slot
-    store-slot-requires
-    add-at
-    add-at-2
-    sub-left
-    loop-less
-    loop-again
-    same-length-3
-    returns-3)
+    (tie.spec Inv-loop μ-loop loop-holds whole-length-requires same-length returns name-at-requires (λ c κs. search needs) (λ c. search needs)
+    (λ c. search needs) same-length-2 returns-2 (λ c κs. search needs) cast-store-slot store-slot-requires add-at add-at-2 sub-left loop-less loop-again
+    same-length-3 returns-3)

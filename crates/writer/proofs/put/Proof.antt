@@ -12,7 +12,7 @@ use Rattle.writer.proofs.put.Tie as tie
 abbrev start : tie.After-put-refusal → tie.Start
 start c = c .before .before .before .before .before
 
-abbrev decided : tie.After-append → tie.After-put-refusal
+abbrev decided : tie.After-hash-and-append → tie.After-put-refusal
 decided c = c .before .before .before .before
 
 -- ---- the needs
@@ -31,7 +31,7 @@ returns-2 c =
     let s = stateWith (a .w) (a .counts .now) (a .buf .now) in
     let e = entryOf (a .name .now) (a .id) in
     let none = sym (decided d .put-refusal .ensures) ∙ d .before .before .before .if1 .left in
-    (sym none, d .append .ensures ∙ accepted-leaves s e none)
+    (sym none, d .hash-and-append .ensures ∙ accepted-leaves s e none)
 
 pub put-spec : {M : Type 1} → statement M
 put-spec =

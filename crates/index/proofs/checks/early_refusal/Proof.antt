@@ -6,7 +6,8 @@ use borrow.Author.Needs.{needs}
 use borrow.Author.Tests.{lt-ltb, le-ltb, not-true, not-false}
 use lib.ListN.{length}
 use Rattle.image.specs.Zero.{hasZero}
-use Rattle.index.specs.Refusals.{inBuffer, earlyRefusal}
+use Rattle.writer.specs.State.{inBuffer}
+use Rattle.index.specs.Refusals.{earlyRefusal}
 use Rattle.index.proofs.checks.early_refusal.Statement.{statement}
 use Rattle.index.proofs.checks.early_refusal.Tie as tie
 

@@ -24,12 +24,4 @@ returns-3 c = let e = c .before .before in seen (e .probe-entry .result) (Hit _)
 
 pub has-name-spec : {M : Type 1} → statement M
 has-name-spec =
-    tie.close
-    (tie.spec
-    (λ c κs. search needs)
-    (λ c. search needs)
-    (λ c. search needs)
-    (λ c. search needs)
-    returns
-    returns-2
-    returns-3)
+    tie.close (tie.spec (λ c κs. search needs) (λ c. search needs) (λ c. search needs) (λ c. search needs) returns returns-2 returns-3)

@@ -98,20 +98,5 @@ returns-4 c = rest-end (c .before .loop .inv) (omega (arith, c .loop-test .left)
 pub probe-spec : {M : Type 1} → statement M
 probe-spec =
     tie.close
-    (tie.spec
-    Inv-loop
-    μ-loop
-    returns
-    start-requires
-    loop-holds
-    offset-at-requires
-    returns-2
-    slot-hash-requires
-    (λ c κs. search needs)
-    add-result
-    returns-3
-    next-requires
-    sub-left
-    loop-less
-    loop-again
-    returns-4)
+    (tie.spec Inv-loop μ-loop returns start-requires loop-holds offset-at-requires returns-2 slot-hash-requires (λ c κs. search needs) add-result returns-3
+    next-requires sub-left loop-less loop-again returns-4)

@@ -11,13 +11,5 @@ slice-write-slots-2 c = simp length-set (omega (arith, c .pre))
 pub store-slot-spec : {M : Type 1} → statement M
 store-slot-spec =
     tie.close
-    (tie.spec
-    (λ c. search needs)
-    (λ c. search needs)
-    (λ c. search needs)
-    (λ c. search needs)
-    (λ c. search needs)
-    (λ c. search needs)
-    slice-write-slots-2
-    (λ c. search needs)
-    (λ c. search needs))
+    (tie.spec (λ c. search needs) (λ c. search needs) (λ c. search needs) (λ c. search needs) (λ c. search needs) (λ c. search needs) slice-write-slots-2
+    (λ c. search needs) (λ c. search needs))

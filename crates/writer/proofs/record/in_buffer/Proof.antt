@@ -1,11 +1,11 @@
--- `index::checks::in_buffer` meets its contract. Assumes nothing.
+-- `writer::record::in_buffer` meets its contract. Assumes nothing.
 use borrow.Author.Tests.{eq-eqb, ne-eqb, le-leb, lt-leb}
 use mathlib.Core.Path.{refl}
 use native.Mathlib.Omega.{arith}
 use Rattle.image.specs.Image.{headSize}
 use lib.ListN.{length}
-use Rattle.index.proofs.checks.in_buffer.Statement.{statement}
-use Rattle.index.proofs.checks.in_buffer.Tie as tie
+use Rattle.writer.proofs.record.in_buffer.Statement.{statement}
+use Rattle.writer.proofs.record.in_buffer.Tie as tie
 
 returns : tie.Need-returns
 returns c = let a = c .before .before .args in rw (ne-eqb (a .w .length) (length (a .buf .now)) (c .if1 .taken)) refl

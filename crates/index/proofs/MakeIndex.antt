@@ -1,28 +1,35 @@
--- An index made entry by entry: after each the slots are those of the entries passed. Assumes nothing.
+-- Making an index: its refusals, and the slots entry by entry: after each they are those of the entries passed. Assumes nothing.
 use Prim.Native.Nat.{ℕ, suc, _+_, _*_, _-_, _≤_, _<_}
 use native.Mathlib.Omega.{arith}
 use mathlib.Core.Path.{_≡_, refl, sym, ap, subst, _∙_}
 use mathlib.Core.Bool.{Bool, true, _&&_}
 use mathlib.Core.List.{List, [], _∷_, _++_, append-assoc, append-nil}
 use mathlib.Core.Logic.{inl, inr}
+use borrow.Author.Tests.{eq-eqb, ne-eqb, lt-ltb, le-ltb}
 use lib.ListN.{length, getD, take, drop, length-append}
+use lib.Dec.{eqb}
 use Rattle.jhash.specs.NameHash.{hashOf}
 use Rattle.image.specs.Tables.{Bucket, insertAll, filled}
-use Rattle.image.specs.Image.{Entry, headSize, entrySize, entriesSize, placed}
+use Rattle.image.specs.Image.{Entry, headSize, entrySize, entriesSize, placed, backIn, backSize}
 use Rattle.image.specs.Stored.{firstEntry, afterFirst, whole, entriesIn, between}
 use Rattle.image.specs.steps.EntryLength.{wholeLength}
 use Rattle.image.proofs.Between.{Front, front, not-whole, length-between}
-use Rattle.image.proofs.Bools.{false-not-true}
+use Rattle.image.proofs.Bools.{false-not-true, and-first}
 use Rattle.image.proofs.Buckets.{getD-empties}
 use Rattle.image.proofs.EntryWalk.{whole-rest, first-name, entries-rest}
 use Rattle.image.proofs.Sizes.{entriesSize-append}
-use Rattle.index.specs.Index.{slotCount, slotAt, slotStored, slotSequence, firstEmptySlot, entryBuckets, FilledWith}
+use Rattle.lookup_laws.proofs.SlotSearch.{none-empty}
+use Rattle.writer.specs.declared.CQDBWriter.{CQDBWriter}
+use Rattle.writer.specs.State.{State, stateWith, finishedSize, countsAgree}
+use Rattle.writer.specs.Close.{entryArea, recorded, closeRefusal}
+use Rattle.writer.proofs.Fits.{fitting, not-too-large}
+use Rattle.writer.proofs.Closes.{accepted}
+use Rattle.index.specs.Index.{slotCount, slotAt, slotStored, slotSequence, firstEmptySlot, entryBuckets, FilledWith, Right, indexRefusal}
 use Rattle.index.specs.Probe.{probeSlots}
 use Rattle.index.specs.steps.Fill.{FillPre, SlotsFilled}
-use Rattle.index.proofs.EntryNames.{buckets-snoc, length-buckets, buckets-occupied}
+use Rattle.index.specs.Promise.{Indexed}
 use Rattle.index.proofs.Probing.{Result, EmptyFound, result, never, never-matches}
-use Rattle.lookup_laws.proofs.SlotSearch.{none-empty}
-use Rattle.index.proofs.Insert.{filled-stored, same-slot, length-stored, stored-other}
+use Rattle.index.proofs.Insert.{buckets-snoc, length-buckets, buckets-occupied, filled-stored, same-slot, length-stored, stored-other}
 
 -- the loop's invariant: `left` entries are not yet passed, from offset `at` on
 pub record Filling (buf : List ℕ) (end entries : ℕ) (words₀ : List ℕ) (at left : ℕ) (words : List ℕ) : Type 0 where
@@ -149,3 +156,57 @@ module _ {buf : List ℕ} {end entries : ℕ} {words₀ : List ℕ} (pre : FillP
         long = f .long;
         last = f .last;
       }
+
+-- ---- the whole
+
+module _ (s : State) (words : List ℕ) where
+  -- a refusal leaves the words
+  unchanged : {k : ℕ} → k ≡ indexRefusal s words → (k ≡ 0 → ⊥) → Indexed s words k words
+  unchanged is some = record { answer = is; refused = λ z. refl; right = λ z. absurd (some z); long = refl; last = λ i h. refl }
+
+  pub index-refused : (r : ℕ) → r ≡ closeRefusal s → (r ≡ 0 → ⊥) → Indexed s words r words
+  unfolding indexRefusal
+  index-refused r answer some = unchanged (rw (ne-eqb (closeRefusal s) 0 (λ z. some (answer ∙ z))) answer) some
+
+  module _ (closes : closeRefusal s ≡ 0) where
+    pub index-full : slotCount words < s .writer .entries → Indexed s words 24 words
+    unfolding indexRefusal
+    index-full l = unchanged (rw (eq-eqb (closeRefusal s) 0 closes, lt-ltb (slotCount words) (s .writer .entries) l) refl) (λ z. omega (arith, z))
+
+    -- cleared, then filled with the entries
+    module _ (cleared words′ : List ℕ) (long : length cleared ≡ length words) (last : (i : ℕ) → 2 * slotCount words ≤ i → getD cleared i 0 ≡ getD words i 0)
+        (fills : SlotsFilled (s .buffer) (s .writer .end) (s .writer .entries) cleared words′) (room : s .writer .entries ≤ slotCount words) where
+      is-made : 0 ≡ indexRefusal s words
+      unfolding indexRefusal
+      is-made = rw (eq-eqb (closeRefusal s) 0 closes, le-ltb (slotCount words) (s .writer .entries) room) (sym closes)
+
+      is-right : length (s .counts) ≡ 256 → Right s words′
+      is-right tables = record { closes = closes; tables = tables; capacity = λ off. omega (arith, room, fills .long, long); slots = λ off. fills .slots }
+
+      pub index-made : Indexed s words 0 words′
+      index-made =
+          record {
+            answer = is-made;
+            refused = λ n. absurd (n refl);
+            right = λ z. is-right;
+            long = fills .long ∙ long;
+            last = λ i h. fills .last i (omega (arith, h, long)) ∙ last i h;
+          }
+
+-- what filling asks for
+pub fillable : (w : CQDBWriter) (counts buf words : List ℕ) → closeRefusal (stateWith w counts buf) ≡ 0 → w .entries ≤ slotCount words
+    → ((i : ℕ) → i < 2 * slotCount words → getD words i 0 ≡ 0) → FillPre buf (w .end) (w .entries) words
+fillable w counts buf words closes room cleared =
+    let s = stateWith w counts buf in
+    let a = accepted s closes in
+    let f = fitting w counts buf (a .fit) in
+    record {
+      low = f .low;
+      inside = omega (arith, f .high, f .same-length);
+      small = omega (arith, not-too-large (w .length) (finishedSize w) (a .fine) .1);
+      entire =
+          and-first (whole (w .entries) (entryArea s)) (countsAgree counts (recorded s))
+          (and-first (whole (w .entries) (entryArea s) && countsAgree counts (recorded s)) (eqb (w .back) (backIn (w .mode) (backSize (recorded s)))) (a .all));
+      capacity = room;
+      cleared = cleared;
+    }

@@ -1,11 +1,11 @@
--- `index::slots::first_empty` meets its contract. The loop's invariant: the rest of the probe sequence gives the result of the whole. Assumes nothing.
+-- `index::slots::first_empty_slot` meets its contract. The loop's invariant: the rest of the probe sequence gives the result of the whole. Assumes nothing.
 use native.Mathlib.Omega.{arith}
 use mathlib.Core.Path.{refl, sym, subst, _∙_}
 use borrow.Author.Needs.{needs}
 use Rattle.index.specs.Index.{slotCount}
 use Rattle.index.proofs.Probing.{never, Rest, rest-start, probe-none, rest-end, rest-empty, rest-next}
-use Rattle.index.proofs.slots.first_empty.Statement.{statement}
-use Rattle.index.proofs.slots.first_empty.Tie as tie
+use Rattle.index.proofs.slots.first_empty_slot.Statement.{statement}
+use Rattle.index.proofs.slots.first_empty_slot.Tie as tie
 
 abbrev Inv-loop : tie.InvT-loop
 Inv-loop slots h m k₀ left₀ k left = Rest slots h never left k
@@ -47,19 +47,8 @@ loop-again c =
 returns-3 : tie.Need-returns-3 Inv-loop μ-loop
 returns-3 c = rest-end (c .before .loop .inv) (omega (arith, c .loop-test .left))
 
-pub first-empty-spec : {M : Type 1} → statement M
-first-empty-spec =
+pub first-empty-slot-spec : {M : Type 1} → statement M
+first-empty-slot-spec =
     tie.close
-    (tie.spec
-    Inv-loop
-    μ-loop
-    returns
-    start-requires
-    loop-holds
-    offset-at-requires
-    returns-2
-    next-requires
-    (λ c. search needs)
-    (λ c. search needs)
-    loop-again
-    returns-3)
+    (tie.spec Inv-loop μ-loop returns start-requires loop-holds offset-at-requires returns-2 next-requires (λ c. search needs) (λ c. search needs)
+    loop-again returns-3)

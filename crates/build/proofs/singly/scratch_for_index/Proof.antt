@@ -1,8 +1,8 @@
--- `build::singly::index_words` meets its contract. Assumes nothing.
+-- `build::singly::scratch_for_index` meets its contract. Assumes nothing.
 use native.Mathlib.Omega.{arith}
 use borrow.Author.Needs.{needs}
-use Rattle.build.proofs.singly.index_words.Statement.{statement}
-use Rattle.build.proofs.singly.index_words.Tie as tie
+use Rattle.build.proofs.singly.scratch_for_index.Statement.{statement}
+use Rattle.build.proofs.singly.scratch_for_index.Tie as tie
 
 returns : tie.Need-returns
 returns c = record { within = omega arith; enough = λ some. absurd (omega arith) }
@@ -16,6 +16,6 @@ returns-3 c = record { within = omega arith; enough = λ some. absurd (omega ari
 returns-4 : tie.Need-returns-4
 returns-4 c = record { within = omega (arith, c .if2 .left); enough = λ some. omega arith }
 
-pub index-words-spec : {M : Type 1} → statement M
-index-words-spec =
+pub scratch-for-index-spec : {M : Type 1} → statement M
+scratch-for-index-spec =
     tie.close (tie.spec (λ c. search needs) (λ c. search needs) returns returns-2 (λ c. search needs) returns-3 returns-4)

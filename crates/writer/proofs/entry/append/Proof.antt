@@ -1,8 +1,8 @@
--- `index::checks::append` meets its contract. Assumes nothing.
+-- `writer::entry::append` meets its contract. Assumes nothing.
 use borrow.Author.Needs.{needs}
 use Rattle.writer.proofs.Puts.{appended-parts}
-use Rattle.index.proofs.checks.append.Statement.{statement}
-use Rattle.index.proofs.checks.append.Tie as tie
+use Rattle.writer.proofs.entry.append.Statement.{statement}
+use Rattle.writer.proofs.entry.append.Tie as tie
 
 abbrev stored : tie.After-writer-after-put → tie.After-store
 stored c = c .before .before .before
