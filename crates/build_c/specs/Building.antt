@@ -19,7 +19,8 @@ builtAnswer (refusal k) = record { refusal = k; size = 0; accepted = 0 }
 
 unfoldable pub buildAnswer : ℕ → ℕ → List ℕ → List ℕ → List ℕ → List ℕ → ℕ → BuildAnswer
 buildAnswer mode repeats buffer bytes ends ids places =
-    cond (validNumbers mode repeats) (builtAnswer (building (modeOf mode) (repeatsOf repeats) buffer bytes ends ids places))
+    cond (validNumbers mode repeats)
+    (builtAnswer (building (modeOf mode) (repeatsOf repeats) buffer bytes ends ids places))
     (builtAnswer (refusal refused.unfit))
 
 -- the buffer afterwards
@@ -31,4 +32,6 @@ pub record BufferLeft (mode repeats : ℕ) (buffer bytes ends ids : List ℕ) (p
 
 unfoldable pub answersBuilt : ℕ → ℕ → List ℕ → List ℕ → List ℕ → List ℕ → List ℕ → List ℕ
 answersBuilt mode repeats buffer bytes ends ids places =
-    cond (validNumbers mode repeats) (answersAfter (modeOf mode) (repeatsOf repeats) buffer bytes ends ids places) places
+    cond (validNumbers mode repeats)
+    (answersAfter (modeOf mode) (repeatsOf repeats) buffer bytes ends ids places)
+    places

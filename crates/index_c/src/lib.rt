@@ -1,6 +1,6 @@
 // The index for C: the record is lent in place, as four numbers and two sizes; the 256 table counts, the buffer and the
-// slots are lent, too. A record whose mode or choice of repeats is neither 0 nor 1 is no record of 01 and fits no buffer.
-// This crate is compiled by itself, so that hash, probe and store have one caller each and are inlined
+// slots are lent, too. A record whose mode or choice of repeats is neither 0 nor 1 is no record of 01 and fits no
+// buffer. This crate is compiled by itself, so that hash, probe and store have one caller each and are inlined
 // (docs/DECISIONS.md, "Why several export crates?").
 ghost use mathlib.Core.Path.{_≡_};
 ghost use lib.ListN.{length};

@@ -1,6 +1,6 @@
-// Rotations: 131,072 words rotated by one amount. `jhash` is asked with an amount that the compiler does not know, so its
-// table is read; and once more with 32 more, which has to give the same. The hash rotates by constants, so these lines
-// alone read the table.
+// Rotations: 131,072 words rotated by one amount. `jhash` is asked with an amount that the compiler does not know, so
+// its table is read; and once more with 32 more, which has to give the same. The hash rotates by constants, so these
+// lines alone read the table.
 use super::hex;
 use super::verdict::Verdict;
 use super::verdict::equal_if;
