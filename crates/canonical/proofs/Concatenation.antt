@@ -1,17 +1,14 @@
 -- Parts that follow one another are their concatenation. Assumes nothing.
 use mathlib.Core.Path.{_≡_, refl, sym, ap, _∙_}
-use mathlib.Core.List.{List, [], _∷_, _++_, append-assoc, append-nil, map}
+use mathlib.Core.List.{List, [], _∷_, _++_, append-assoc, append-nil}
 use Prim.Native.Nat.{ℕ, zero, suc, _+_, _*_, _≤_, _<_}
 use native.Mathlib.Omega.{arith}
-use lib.ListN.{length, getD, drop, length-append, length-drop, length-map}
+use lib.ListN.{length, getD, drop, length-append, length-drop}
 use lib.Seq.{drop-append-seam, drop-drop}
 use Rattle.image.specs.Bytes.{word, le32, cat, range}
-use Rattle.image.specs.Tables.{empty}
 use Rattle.image.proofs.EntryArea.{AllBytes, bytes-drop, front-word}
 use Rattle.image.proofs.At.{At, at-same}
-use Rattle.image.proofs.Lists.{length-range, getD-range}
 use Rattle.image.proofs.Words.{word-drop, length-le32}
-use Rattle.canonical.specs.steps.InPlace.{bucketAt, bucketsInPlace, wordsAt}
 
 pub at-nothing : (img : List ℕ) (o : ℕ) → At img o []
 at-nothing img o = record { post = drop o img; stands = refl }
@@ -71,34 +68,14 @@ at-le32 img o w bytes h e = record {
       ∙ ap (λ (k : ℕ). le32 k ++ drop 4 (drop o img)) (word-drop img o 0 ∙ ap (word img) z ∙ e);
 }
 
-pub at-two : (img : List ℕ) (o v w : ℕ) → AllBytes img → o + 8 ≤ length img → word img o ≡ v → word img (o + 4) ≡ w → At img o (le32 v ++ le32 w)
-at-two img o v w bytes h e f =
-    at-join (le32 v) (le32 w) (at-le32 img o v bytes (omega arith) e)
-    (at-same (ap (λ (n : ℕ). o + n) (sym (length-le32 v))) (at-le32 img (o + 4) w bytes (omega arith) f))
+-- words one after the other
+abbrev WordsAre : List ℕ → ℕ → List ℕ → Type 0
+WordsAre img o [] = Unit {0}
+WordsAre img o (w ∷ ws) = (word img o ≡ w) × WordsAre img (o + 4) ws
 
--- ---- buckets and links as they are read
-
-pub getD-run : {A : Type 0} (f : ℕ → A) (n k : ℕ) (d : A) → k < n → getD (map f (range 0 n)) k d ≡ f k
-getD-run {A} f n k d h =
-    getD-map-in f (range 0 n) k d (rw (length-range 0 n) h) ∙ ap f (getD-range 0 n k h ∙ let e : 0 + k ≡ k = omega arith in e)
-  where
-    getD-map-in : (g : ℕ → A) (ks : List ℕ) (j : ℕ) (d : A) → j < length ks → getD (map g ks) j d ≡ g (getD ks j 0)
-    getD-map-in g [] j d h = absurd (omega arith)
-    getD-map-in g (k ∷ ks) zero d h = refl
-    getD-map-in g (k ∷ ks) (suc j) d h = getD-map-in g ks j d (omega arith)
-
-pub getD-bucketsInPlace : (img : List ℕ) (o n k : ℕ) → k < n → getD (bucketsInPlace img o n) k empty ≡ bucketAt img (o + 8 * k)
-unfolding bucketsInPlace
-getD-bucketsInPlace img o n k h = getD-run (λ (k : ℕ). bucketAt img (o + 8 * k)) n k empty h
-
-pub length-bucketsInPlace : (img : List ℕ) (o n : ℕ) → length (bucketsInPlace img o n) ≡ n
-unfolding bucketsInPlace
-length-bucketsInPlace img o n = length-map (range 0 n) (λ (k : ℕ). bucketAt img (o + 8 * k)) ∙ length-range 0 n
-
-pub getD-wordsAt : (img : List ℕ) (o n k : ℕ) → k < n → getD (wordsAt img o n) k 0 ≡ word img (o + 4 * k)
-unfolding wordsAt
-getD-wordsAt img o n k h = getD-run (λ (k : ℕ). word img (o + 4 * k)) n k 0 h
-
-pub length-wordsAt : (img : List ℕ) (o n : ℕ) → length (wordsAt img o n) ≡ n
-unfolding wordsAt
-length-wordsAt img o n = length-map (range 0 n) (λ (k : ℕ). word img (o + 4 * k)) ∙ length-range 0 n
+pub at-words : (img : List ℕ) (o : ℕ) (ws : List ℕ) → AllBytes img → o + 4 * length ws ≤ length img → WordsAre img o ws → At img o (cat le32 ws)
+unfolding cat
+at-words img o [] bytes h are = at-nothing img o
+at-words img o (w ∷ ws) bytes h are =
+    at-join (le32 w) (cat le32 ws) (at-le32 img o w bytes (omega arith) (are .0))
+    (at-same (ap (λ (n : ℕ). o + n) (sym (length-le32 w))) (at-words img (o + 4) ws bytes (omega arith) (are .1)))

@@ -31,7 +31,6 @@ module _ (img : List ℕ) (h at : ℕ) where
   module _ {o n s k : ℕ} (eo : o ≡ word img (24 + 8 * (h % 256))) (en : n ≡ word img (28 + 8 * (h % 256))) (nz : n ≡ 0 → ⊥)
       (es : BucketIs (start h n) n s) (ek : BucketIs (firstEmptyBefore img o n s at) n k) (w : ℕ) (ew : w ≡ word img (o + 8 * k)) where
     taken-is : o + 8 * k ≡ bucketTaken img h at
-    unfolding bucketTaken
     taken-is =
         ap₂ (λ (x : ℕ) (y : ℕ). x + 8 * y) eo
         (ek .is ∙ ap (λ (j : ℕ). firstEmptyBefore img o n j at) (es .is)

@@ -15,20 +15,19 @@ use Rattle.image.specs.Tally.{raisedCounts}
 use Rattle.image.proofs.Between.{Front, front, EntryRoom, entry-room}
 use Rattle.image.proofs.Bools.{false-not-true}
 use Rattle.image.proofs.EntryWalk.{Rest, first-id, first-name, entries-rest, walk-start, walk-step, walk-broken, walk-end}
-use Rattle.canonical.specs.steps.Checks.{entryName, nameOk, notBefore, entriesOk, selfLinksIn, placedFrom}
+use Rattle.canonical.specs.steps.Checks.{entryName, nameOk, notBefore, entriesOk, entriesValid, placedFrom}
+use Rattle.canonical.specs.steps.HiddenBuckets.{inCells, selfLinks}
+use Rattle.canonical.specs.steps.InPlace.{linkAt}
 use Rattle.canonical.specs.steps.Contracts.{OneIf, CheckEntriesPre, EntriesFound}
 
 -- what the entries from `at` on add to what was found before them is the whole
 pub record Entering (img : List ℕ) (end entries : ℕ) (two : Bool) (o : ℕ) (counts₀ : List ℕ) (at left back linked : ℕ) (counts : List ℕ) : Type 0 where
   pub rest : Rest img end entries counts₀ at left back counts
   pub valid-same : entriesOk img two o (placedFrom img end left at) ≡ entriesOk img two o (placedFrom img end entries 2072)
-  pub linked-same : linked + selfLinksIn img o (placedFrom img end left at) ≡ selfLinksIn img o (placedFrom img end entries 2072)
+  pub linked-same : linked + selfLinks (linkAt img o) (placedFrom img end left at) ≡ selfLinks (linkAt img o) (placedFrom img end entries 2072)
   pub few : linked + left ≤ entries
 
-abbrev Valid : List ℕ → ℕ → ℕ → Bool → ℕ → Bool
-Valid img end entries two o = whole entries (between img 2072 end) && entriesOk img two o (placedFrom img end entries 2072)
-
-not-valid : {img : List ℕ} {end entries : ℕ} {two : Bool} {o : ℕ} {counts₀ counts : List ℕ} → false ≡ Valid img end entries two o
+not-valid : {img : List ℕ} {end entries : ℕ} {two : Bool} {o : ℕ} {counts₀ counts : List ℕ} → false ≡ entriesValid img end entries two o
     → EntriesFound img end entries two o counts₀ counts (record { valid = false; back = 0; linked = 0 })
 not-valid e = record {
   valid = e;
@@ -117,15 +116,15 @@ module _ {img : List ℕ} {end entries : ℕ} {two : Bool} {o : ℕ} {counts₀ 
 
     pub entering-next : (p && q) ≡ true → (b : ℕ) (counts₁ : List ℕ) → n < 4294967296 → id < 4294967296 → OneIf w at b → counts₁ ≡ raisedCounts counts h
         → Entering img end entries two o counts₀ (at + (8 + n)) (left - 1) (max back (id + 1)) (linked + b) counts₁
-    unfolding later selfLinksIn
+    unfolding later inCells
     entering-next y b counts₁ small idsmall one ec = record {
       rest =
           walk-step img end entries counts₀ at left back counts k (e .rest) some n h id (entryName img at n) counts₁ there small idsmall refl (r .hash-is)
           (r .id-is) ec;
       valid-same = sym (entries-step ∙ ap (λ (b : Bool). b && entriesOk img two o later) y) ∙ e .valid-same;
       linked-same =
-          let t : selfLinksIn img o (placedFrom img end left at) ≡ cond (eqb w at) 1 0 + selfLinksIn img o later =
-          ap (selfLinksIn img o) step ∙ ap (λ (v : ℕ). cond (eqb v at) 1 0 + selfLinksIn img o later) link-is in
+          let t : selfLinks (linkAt img o) (placedFrom img end left at) ≡ cond (eqb w at) 1 0 + selfLinks (linkAt img o) later =
+          ap (selfLinks (linkAt img o)) step ∙ ap (λ (v : ℕ). cond (eqb v at) 1 0 + selfLinks (linkAt img o) later) link-is in
           omega (arith, one .is, e .linked-same);
       few = omega (arith, one .most, e .few);
     }
@@ -133,11 +132,11 @@ module _ {img : List ℕ} {end entries : ℕ} {two : Bool} {o : ℕ} {counts₀ 
 pub entering-end : {img : List ℕ} {end entries : ℕ} {two : Bool} {o : ℕ} {counts₀ : List ℕ} {at back linked : ℕ} {counts : List ℕ}
     → Entering img end entries two o counts₀ at 0 back linked counts → end ≤ length img
     → EntriesFound img end entries two o counts₀ counts (record { valid = eqb at end; back = back; linked = linked })
-unfolding entriesOk selfLinksIn placed entriesIn
+unfolding entriesOk inCells placed entriesIn
 entering-end {img} {end} {entries} {two} {o} {counts₀} {at} {back} {linked} {counts} e k =
     let w = walk-end img end entries counts₀ at back counts k (e .rest) in
     let all : true ≡ entriesOk img two o (placedFrom img end entries 2072) = e .valid-same in
-    let links : linked + 0 ≡ selfLinksIn img o (placedFrom img end entries 2072) = e .linked-same in
+    let links : linked + 0 ≡ selfLinks (linkAt img o) (placedFrom img end entries 2072) = e .linked-same in
     record {
       valid = w .0 ∙ and-all (whole entries (between img 2072 end)) ∙ ap (λ (b : Bool). whole entries (between img 2072 end) && b) all;
       back = λ y. w .1;

@@ -22,13 +22,9 @@ use Rattle.lists.proofs.OneMoreClose.{list-image, list-below}
 use Rattle.lists.proofs.Readings.{accepted-free}
 use Rattle.canonical.specs.steps.Made.{Storable, Made}
 use Rattle.canonical.specs.Canonical.{putsIn, modeIn}
-use Rattle.canonical.proofs.ReadBack.{word-ids, puts-image, flag-of-image}
+use Rattle.canonical.proofs.ReadBack.{word-ids, storables, puts-image, flag-of-image}
 
 -- ---- the image of every list is canonical, and its puts are the accepted ones
-
-storables : (es : List Entry) → All (λ (e : Entry). hasZero (e .name) ≡ false) es → All (λ (e : Entry). e .id < 2 ^ 32) es → All Storable es
-storables [] f i = tt
-storables (e ∷ es) f i = (record { free = f .0; id-word = i .0 }, storables es (f .1) (i .1))
 
 module _ (mode : Mode) (repeats : Repeats) (buffer : List ℕ) (room : headSize ≤ length buffer) (cs : List Call) (word : WordIds mode cs) where
   ids : All (λ (e : Entry). e .id < 2 ^ 32) (accepted mode repeats (length buffer) cs)

@@ -2,7 +2,7 @@
 use Prim.Native.Nat.{ℕ, zero, suc, _+_, _-_, _^_, _≤_, _<_}
 use native.Mathlib.Omega.{arith}
 use mathlib.Core.Path.{_≡_, refl, sym, ap, ap₂, _∙_}
-use mathlib.Core.Bool.{true, cond, not, _&&_}
+use mathlib.Core.Bool.{true, false, cond, not, _&&_}
 use mathlib.Core.List.{List, [], _∷_, _++_, append-assoc}
 use lib.ListN.{length, drop}
 use lib.Dec.{eqb, leb}
@@ -15,7 +15,7 @@ use Rattle.image.proofs.EntryArea.{AllBytes, bytes-drop, bytes-take, ids-words}
 use Rattle.image.proofs.At.{At, at-same, at-left, at-right, at-word}
 use Rattle.image.proofs.Bools.{and-first, and-second, and-both}
 use Rattle.image.proofs.Equal.{same-true, same-self}
-use Rattle.image.proofs.AllOfList.{All, all-map}
+use Rattle.image.proofs.AllOfList.{All, all-map, all-both}
 use Rattle.image.proofs.Parts.{head-at, entries-at}
 use Rattle.image.proofs.Words.{length-le32}
 use Rattle.reader.specs.Open.{opening}
@@ -107,13 +107,13 @@ frees (e ∷ es) a = and-both (not (hasZero (e .name))) (noZeroBytes es) (ap not
 pub ids-of : (es : List Entry) → All Storable es → WordIds es
 ids-of es a = all-map (λ e s. s .id-word) es a
 
-storables : (es : List Entry) → noZeroBytes es ≡ true → WordIds es → All Storable es
+pub storables : (es : List Entry) → All (λ (e : Entry). hasZero (e .name) ≡ false) es → WordIds es → All Storable es
+storables es f i = all-map (λ e s. record { free = s .0; id-word = s .1 }) es (all-both (λ (e : Entry). hasZero (e .name) ≡ false) _ es f i)
+
+names-free : (es : List Entry) → noZeroBytes es ≡ true → All (λ (e : Entry). hasZero (e .name) ≡ false) es
 unfolding noZeroBytes
-storables [] f i = tt
-storables (e ∷ es) f i = (
-  record { free = not-true (hasZero (e .name)) (and-first (not (hasZero (e .name))) (noZeroBytes es) f); id-word = i .0 },
-  storables es (and-second (not (hasZero (e .name))) (noZeroBytes es) f) (i .1),
-)
+names-free [] f = tt
+names-free (e ∷ es) f = (not-true _ (and-first (not (hasZero (e .name))) _ f), names-free es (and-second (not (hasZero (e .name))) _ f))
 
 -- puts and direction of an image that puts make are read back
 pub made-puts : (img : List ℕ) (m : Made img) → putsIn img ≡ m .puts
@@ -144,7 +144,7 @@ canonical-only img bytes h =
     record {
       mode = modeIn img;
       puts = putsIn img;
-      each = storables (putsIn img) (and-first a b ab) (ids-words (counted (opening img)) (drop headSize img) (bytes-drop headSize img bytes));
+      each = storables (putsIn img) (names-free (putsIn img) (and-first a b ab)) (ids-words (counted (opening img)) (drop headSize img) (bytes-drop headSize img bytes));
       fits = leb-true (imageSize (modeIn img) (putsIn img)) 4294967295 (and-second a b ab);
       is = same-true (image (modeIn img) (putsIn img)) img (and-second (a && b) c h);
     }

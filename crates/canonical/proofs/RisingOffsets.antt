@@ -5,9 +5,10 @@ use Prim.Native.Nat.{ℕ, suc, _+_}
 use native.Mathlib.Omega.{arith}
 use Rattle.image.specs.Bytes.{filter}
 use Rattle.image.specs.Image.{Entry, Placed, entrySize, placed, inTable, ofTable, bucketOf}
-use Rattle.canonical.specs.steps.HiddenBuckets.{Rising, bucketOffsets}
-use Rattle.canonical.proofs.CountAtLeast.{rising-less}
+use Rattle.canonical.specs.steps.HiddenBuckets.{Rising}
+use Rattle.canonical.proofs.Sums.{rising-less}
 use Rattle.canonical.proofs.BackArray.{offsets}
+use Rattle.canonical.proofs.FilledTable.{bucketOffsets}
 
 pub rises : (o : ℕ) (es : List Entry) → Rising o (offsets (placed o es))
 unfolding placed
