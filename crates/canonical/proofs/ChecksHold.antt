@@ -160,28 +160,26 @@ module _ (mode : Mode) (es : List Entry) (each : All Storable es) (fits : imageS
       (all-placed (λ (e : Entry). e .id < backSizeAt img) headSize es (ids-below es (backSizeAt img) (omega arith)))
       (λ i h. ip .links i (omega (arith, ip .back-size))))
 
-  linked : All (λ (p : Placed). notBefore (isTwo mode) (p .at) (linkAt img (endIn img n + 16 * n) (p .entry .id)) ≡ true) ps
+  -- what the checks of the links ask, in either mode
+  abbrev Linked : Mode → Type 0
+  Linked f =
+      All (λ (p : Placed). notBefore (isTwo f) (p .at) (linkAt img (endIn img n + 16 * n) (p .entry .id)) ≡ true) ps
+      × (cond (isTwo f) (linksCounted img (endIn img n + 16 * n) (backSizeAt img) ps) true ≡ true)
+
+  linked : Linked mode
   linked = by-mode mode matched
     where
-      by-mode : (f : Mode) → (f ≡ Twoway → BackArrayMatches (backSizeAt img) (linkAt img (endIn img n + 16 * n)) ps)
-          → All (λ (p : Placed). notBefore (isTwo f) (p .at) (linkAt img (endIn img n + 16 * n) (p .entry .id)) ≡ true) ps
-      by-mode Twoway m = all-map (λ p h. ahead-checked (p .at) _ h) ps (m refl .ahead)
-      by-mode Oneway m = all-map (λ p h. refl) ps names
-
-  counted : cond (isTwo mode) (linksCounted img (endIn img n + 16 * n) (backSizeAt img) ps) true ≡ true
-  counted = by-mode mode matched
-    where
-      by-mode : (f : Mode) → (f ≡ Twoway → BackArrayMatches (backSizeAt img) (linkAt img (endIn img n + 16 * n)) ps)
-          → cond (isTwo f) (linksCounted img (endIn img n + 16 * n) (backSizeAt img) ps) true ≡ true
-      by-mode Twoway m = eq-eqb _ (selfLinks (linkAt img (endIn img n + 16 * n)) ps) (m refl .used)
-      by-mode Oneway m = refl
+      by-mode : (f : Mode) → (f ≡ Twoway → BackArrayMatches (backSizeAt img) (linkAt img (endIn img n + 16 * n)) ps) → Linked f
+      by-mode Twoway m =
+          (all-map (λ p h. ahead-checked (p .at) _ h) ps (m refl .ahead), eq-eqb _ (selfLinks (linkAt img (endIn img n + 16 * n)) ps) (m refl .used))
+      by-mode Oneway m = (all-map (λ p h. refl) ps names, refl)
 
   valid : entriesOk img (isTwo mode) (endIn img n + 16 * n) ps ≡ true
   valid =
       entries-checked img (isTwo mode) (endIn img n + 16 * n) ps
       (all-map (λ p s. and-both (notBefore (isTwo mode) (p .at) (linkAt img (endIn img n + 16 * n) (p .entry .id))) _ (s .0)
       (and-both (not (hasZero (p .entry .name))) _ (s .1 .0) (s .1 .1))) ps
-      (all-both _ (λ (p : Placed). Free p × InBucket img p) ps linked (all-both Free (InBucket img) ps names buckets)))
+      (all-both _ (λ (p : Placed). Free p × InBucket img p) ps (linked .0) (all-both Free (InBucket img) ps names buckets)))
 
   -- ---- all
 
@@ -198,7 +196,7 @@ module _ (mode : Mode) (es : List Entry) (each : All Storable es) (fits : imageS
         ∙ sym (ap₂ (λ (f : Mode) (l : List Entry). backIn f (backSize l)) flags entries-are);
     links =
         ap₂ (λ (two : Bool) (l : List Entry). cond two (linksCounted img (endIn img n + 16 * n) (backSizeAt img) (placed headSize l)) true) two-is entries-are
-        ∙ counted;
+        ∙ linked .1;
   }
     where
       flags : modeIn img ≡ mode

@@ -185,7 +185,8 @@ module _ (img : List ℕ) (n : ℕ) (bytes : AllBytes img) (c : Checked img n) w
   table : (t : ℕ) → t < 256 → Filled (2 * count t ps) (slotsAt img (place t)) (map bucketOf (ofTable t ps))
   unfolding ps place
   table t h =
-      let (zeros, used) = rw (place-is t h, row-count img ps numbers t h) at (table-facts img (tablePlace img (endIn img n) t) (rowCount img t) (row t h .table)) in
+      let facts = table-facts img (tablePlace img (endIn img n) t) (rowCount img t) (row t h .table) in
+      let (zeros, used) = rw (place-is t h, row-count img ps numbers t h) at facts in
       matching-filled (2 * count t ps) (slotsAt img (place t)) (map bucketOf (ofTable t ps)) (table-rises es t)
       record {
         zeros = zeros;
@@ -206,8 +207,8 @@ module _ (img : List ℕ) (n : ℕ) (bytes : AllBytes img) (c : Checked img n) w
       o = endIn img n + 16 * n
 
       by-mode : (two : Bool) → backSizeAt img ≡ backIn (cond two Twoway Oneway) (backSize es)
-          → All (λ (p : Placed). entryOk img two o p ≡ true) (placed headSize es) → cond two (linksCounted img o (backSizeAt img) (placed headSize es)) true ≡ true
-          → i < backIn (cond two Twoway Oneway) (backSize es) → backWord (placed headSize es) i ≡ linkAt img o i
+          → All (λ (p : Placed). entryOk img two o p ≡ true) (placed headSize es)
+          → cond two (linksCounted img o (backSizeAt img) (placed headSize es)) true ≡ true → i < backIn (cond two Twoway Oneway) (backSize es) → backWord (placed headSize es) i ≡ linkAt img o i
       by-mode false e a k l = absurd (omega arith)
       by-mode true e a k l =
           matching-link (linkAt img o) (backSizeAt img) (placed headSize es) (all-rise es)
@@ -239,7 +240,9 @@ module _ (img : List ℕ) (n : ℕ) (bytes : AllBytes img) (c : Checked img n) w
   checked-made = record {
     mode = mode;
     puts = es;
-    each = storables es (unplaced (λ (e : Entry). hasZero (e .name) ≡ false) headSize es (all-map (λ p r. not-true _ (r .0)) ps names)) (ids-words n (between img headSize (endIn img n)) area-bytes);
+    each =
+        storables es (unplaced (λ (e : Entry). hasZero (e .name) ≡ false) headSize es (all-map (λ p r. not-true _ (r .0)) ps names))
+        (ids-words n (between img headSize (endIn img n)) area-bytes);
     fits = omega (arith, total, c .size, word-below img 4 bytes);
     is = in-place-image img mode es bytes in-place;
   }

@@ -16,6 +16,7 @@ use Rattle.reader.specs.Open.{opening}
 use Rattle.canonical.specs.Canonical.{canonical}
 use Rattle.canonical.specs.steps.Checks.{endIn, Checked, bodyOk}
 use Rattle.canonical.proofs.ReadBack.{canonical-yes, canonical-only}
+use Rattle.canonical.proofs.TableChecks.{never-value}
 use Rattle.canonical.proofs.ChecksSuffice.{checked-made}
 use Rattle.canonical.proofs.ChecksHold.{canonical-checked}
 
@@ -27,10 +28,7 @@ not-canonical img bytes d = answer-false (canonical img) refl
     answer-false true e = let made = canonical-only img bytes e in absurd (d (length (made .puts)) (canonical-checked img made))
 
 pub never-opened : (img : List ℕ) (k : ℕ) → opening img ≡ refusal k → AllBytes img → false ≡ canonical img
-never-opened img k e bytes = not-canonical img bytes (λ m c. differ m (sym e ∙ c .opened))
-  where
-    differ : (n : ℕ) → refusal k ≡ value n → ⊥
-    differ n f = let z : _≡_ {A = ℕ} 0 1 = cc in omega arith
+never-opened img k e bytes = not-canonical img bytes (λ m c. never-value k m (sym e ∙ c .opened))
 
 module _ (img : List ℕ) (n : ℕ) (bytes : AllBytes img) (opened : opening img ≡ value n) where
   -- one check fails

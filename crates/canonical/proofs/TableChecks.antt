@@ -34,17 +34,17 @@ pub record Opens (img : List ℕ) : Type 0 where
   pub order : word img 12 ≡ 0x62445371
   pub tables : somePastEnd img 0 256 ≡ false
 
+pub never-value : (k n : ℕ) → refusal k ≡ value n → ⊥
+never-value k n e = let z : _≡_ {A = ℕ} 0 1 = cc in omega arith
+
 pub opens : (img : List ℕ) (n : ℕ) → opening img ≡ value n → Opens img
 unfolding opening
 opens img n e =
-    let (a, e1) = chose-second (ltb (length img) 2072) (refusal 1) _ (value n) (differ 1) e in
-    let (b, e2) = chose-second (not (hasLetters img)) (refusal 5) _ (value n) (differ 5) e1 in
-    let (c, e3) = chose-second (not (eqb (word img 12) 0x62445371)) (refusal 6) _ (value n) (differ 6) e2 in
-    let (d, e4) = chose-second (somePastEnd img 0 256) (refusal 7) _ (value n) (differ 7) e3 in
+    let (a, e1) = chose-second (ltb (length img) 2072) (refusal 1) _ (value n) (never-value 1 n) e in
+    let (b, e2) = chose-second (not (hasLetters img)) (refusal 5) _ (value n) (never-value 5 n) e1 in
+    let (c, e3) = chose-second (not (eqb (word img 12) 0x62445371)) (refusal 6) _ (value n) (never-value 6 n) e2 in
+    let (d, e4) = chose-second (somePastEnd img 0 256) (refusal 7) _ (value n) (never-value 7 n) e3 in
     record { letters = not-false _ b; order = eqb-true (word img 12) 0x62445371 (not-false _ c); tables = d }
-  where
-    differ : (k : ℕ) → refusal k ≡ value n → ⊥
-    differ k f = let z : _≡_ {A = ℕ} 0 1 = cc in omega arith
 
 none-past-end : (img : List ℕ) (t m k : ℕ) → somePastEnd img t m ≡ false → t ≤ k → k < t + m → 0 < tableAt img k
     → tableAt img k + 8 * bucketNumber img k ≤ length img
