@@ -208,7 +208,8 @@ module _ (img : List ℕ) (n : ℕ) (bytes : AllBytes img) (c : Checked img n) w
 
       by-mode : (two : Bool) → backSizeAt img ≡ backIn (cond two Twoway Oneway) (backSize es)
           → All (λ (p : Placed). entryOk img two o p ≡ true) (placed headSize es)
-          → cond two (linksCounted img o (backSizeAt img) (placed headSize es)) true ≡ true → i < backIn (cond two Twoway Oneway) (backSize es) → backWord (placed headSize es) i ≡ linkAt img o i
+          → cond two (linksCounted img o (backSizeAt img) (placed headSize es)) true ≡ true
+          → i < backIn (cond two Twoway Oneway) (backSize es) → backWord (placed headSize es) i ≡ linkAt img o i
       by-mode false e a k l = absurd (omega arith)
       by-mode true e a k l =
           matching-link (linkAt img o) (backSizeAt img) (placed headSize es) (all-rise es)
