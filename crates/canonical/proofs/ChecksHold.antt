@@ -32,20 +32,16 @@ use Rattle.canonical.specs.steps.HiddenBuckets.{selfLinks, Stands, Table
 use Rattle.canonical.specs.steps.InPlace.{slotsAt, linkAt}
 use Rattle.canonical.specs.steps.Made.{Storable, Made}
 use Rattle.canonical.specs.steps.Checks.{endIn, entriesTo, rowCount, tablePlace, countsMatch, notBefore}
-use Rattle.canonical.specs.steps.Checks.{twoWay, entriesOk, linksCounted, bodyOk, Checked}
+use Rattle.canonical.specs.steps.Checks.{twoWay, entriesOk, linksCounted, Checked}
 use Rattle.canonical.proofs.InPlace.{InPlace}
 use Rattle.canonical.proofs.BackArray.{all-own, links-match}
 use Rattle.canonical.proofs.FilledTable.{filled-matches}
 use Rattle.canonical.proofs.ReadBack.{all-wordly, ids-of, flag-of-image}
 use Rattle.canonical.proofs.TableChecks.{table-checked, Row, row-checked, row-place, counts-checked, row-count, rows-before}
-use Rattle.canonical.proofs.EntryChecks.{Free, InBucket, bucket-checked, entries-checked, ahead-checked}
+use Rattle.canonical.proofs.EntryChecks.{Body, body-checked, Free, InBucket, bucket-checked, entries-checked, ahead-checked}
 use Rattle.canonical.proofs.ImageInPlace.{image-in-place}
-use Rattle.canonical.proofs.ChecksSuffice.{all-rise, table-rises, counts-are, Body}
-
-body-checked : (img : List ℕ) (n end back : ℕ) → Body img n end back → bodyOk img n end back ≡ true
-unfolding bodyOk
-body-checked img n end back t =
-    rw (t .rows, t .wholes, t .entries, t .counts, eq-eqb back (backIn (modeIn img) (backSize (entriesTo img end n))) (t .backs)) (t .links)
+use Rattle.canonical.proofs.RisingOffsets.{all-rise, table-rises}
+use Rattle.canonical.proofs.ChecksSuffice.{counts-are}
 
 -- has a mode links?
 abbrev isTwo : Mode → Bool

@@ -3,7 +3,7 @@ use Prim.Native.Nat.{ℕ, _+_, _*_, _-_, _<_}
 use native.Mathlib.Omega.{arith}
 use native.Mathlib.Decide.{ℕ-discrete}
 use mathlib.Core.Path.{_≡_, sym, ap, ap₂, _∙_}
-use mathlib.Core.Bool.{Bool, true, false, cond, not, _&&_}
+use mathlib.Core.Bool.{Bool, true, false, cond, not}
 use mathlib.Core.List.{List, [], _∷_, _++_, map}
 use lib.ListN.{length, getD, drop, replicate, length-take, length-drop, length-map, length-replicate, take-append-drop}
 use lib.Dec.{eqb}
@@ -28,27 +28,19 @@ use Rattle.writer.proofs.Agree.{zeros, tallied-count}
 use Rattle.image.specs.declared.Mode.{Mode}
 use Rattle.image.specs.declared.Mode.the-variants.{Twoway, Oneway}
 use Rattle.canonical.specs.Canonical.{modeIn}
-use Rattle.canonical.specs.steps.HiddenBuckets.{Rising, usedTo, selfLinks, Stands}
+use Rattle.canonical.specs.steps.HiddenBuckets.{usedTo, selfLinks, Stands}
 use Rattle.canonical.specs.steps.InPlace.{slotsAt, linkAt}
 use Rattle.canonical.specs.steps.Made.{Made}
-use Rattle.canonical.specs.steps.Checks.{endIn, entriesTo, placedFrom, rowCount, tablePlace, rowsOk, countsMatch, notBefore}
-use Rattle.canonical.specs.steps.Checks.{twoWay, entryOk, entriesOk, entriesValid, linksCounted, bodyOk, Checked}
+use Rattle.canonical.specs.steps.Checks.{endIn, entriesTo, rowCount, tablePlace, notBefore}
+use Rattle.canonical.specs.steps.Checks.{twoWay, entryOk, linksCounted, Checked}
 use Rattle.canonical.proofs.InPlace.{InPlace}
-use Rattle.canonical.proofs.BackArray.{offsets, matching-link}
-use Rattle.canonical.proofs.FilledTable.{bucketOffsets, matching-filled}
-use Rattle.canonical.proofs.RisingOffsets.{rises, rises-table}
-use Rattle.canonical.proofs.Sums.{rising-less}
+use Rattle.canonical.proofs.BackArray.{matching-link}
+use Rattle.canonical.proofs.FilledTable.{matching-filled}
+use Rattle.canonical.proofs.RisingOffsets.{all-rise, table-rises}
 use Rattle.canonical.proofs.ReadBack.{storables}
-use Rattle.canonical.proofs.TableChecks.{and3-facts, opens, table-facts, Row, row-facts, row-place, counts-facts, row-count, rows-before}
-use Rattle.canonical.proofs.EntryChecks.{Free, InBucket, bucket-facts, entries-facts, to-table, ahead-facts}
+use Rattle.canonical.proofs.TableChecks.{opens, table-facts, Row, row-facts, row-place, counts-facts, row-count, rows-before}
+use Rattle.canonical.proofs.EntryChecks.{Body, body-facts, Free, InBucket, bucket-facts, entries-facts, to-table, ahead-facts}
 use Rattle.canonical.proofs.InPlaceImage.{in-place-image}
-
--- the offsets of a table's entries rise, and so do those of all
-pub all-rise : (es : List Entry) → Rising 1 (offsets (placed headSize es))
-all-rise es = rising-less 1 headSize (offsets (placed headSize es)) (omega arith) (rises headSize es)
-
-pub table-rises : (es : List Entry) (t : ℕ) → Rising 1 (bucketOffsets (map bucketOf (ofTable t (placed headSize es))))
-table-rises es t = rises-table t 1 (placed headSize es) (all-rise es)
 
 -- what holds of entries with their offsets, and not of these
 unplaced : (Q : Entry → Type 0) (o : ℕ) (es : List Entry) → All (λ (p : Placed). Q (p .entry)) (placed o es) → All Q es
@@ -61,33 +53,6 @@ pub counts-are : (es : List Entry) (t : ℕ) → t < 256 → getD (tallied (repl
 counts-are es t h =
     let tally = tallied-count es (replicate 256 0) headSize t (omega (arith, length-replicate {A = ℕ} 256 0)) in
     omega (arith, zeros 256 t)
-
--- the checks behind the head, one by one
-pub record Body (img : List ℕ) (n end back : ℕ) : Type 0 where
-  pub rows : rowsOk img end ≡ true
-  pub wholes : whole n (between img headSize end) ≡ true
-  pub entries : entriesOk img (twoWay img) (end + 16 * n) (placedFrom img end n headSize) ≡ true
-  pub counts : countsMatch img (tallied (replicate 256 0) (entriesTo img end n)) ≡ true
-  pub backs : back ≡ backIn (modeIn img) (backSize (entriesTo img end n))
-  pub links : cond (twoWay img) (linksCounted img (end + 16 * n) back (placedFrom img end n headSize)) true ≡ true
-
-body-facts : (img : List ℕ) (n end back : ℕ) → bodyOk img n end back ≡ true → Body img n end back
-unfolding bodyOk
-body-facts img n end back h =
-    let valid = entriesValid img end n (twoWay img) (end + 16 * n) in
-    let counted = countsMatch img (tallied (replicate 256 0) (entriesTo img end n)) in
-    let backs : ℕ = backIn (modeIn img) (backSize (entriesTo img end n)) in
-    let (first, back-is, links) = and3-facts (rowsOk img end && valid && counted) (eqb back backs) _ h in
-    let (rows, entries, counts) = and3-facts (rowsOk img end) valid counted first in
-    let wholes = whole n (between img headSize end) in
-    record {
-      rows = rows;
-      wholes = and-first wholes _ entries;
-      entries = and-second wholes _ entries;
-      counts = counts;
-      backs = eqb-true back backs back-is;
-      links = links;
-    }
 
 module _ (img : List ℕ) (n : ℕ) (bytes : AllBytes img) (c : Checked img n) where
   b : Body img n (endIn img n) (backSizeAt img)

@@ -1,16 +1,19 @@
--- What the checks of entries and links say. Assumes nothing.
+-- What the checks of entries and links say, and all of those behind the head. Assumes nothing.
 use Prim.Native.Nat.{ℕ, _+_, _*_, _/_, _≤_}
 use native.Mathlib.Omega.{arith}
 use native.Mathlib.Nat.{mod-lt}
 use mathlib.Core.Path.{_≡_, refl, ap}
-use mathlib.Core.Bool.{Bool, true, false, cond, not}
+use mathlib.Core.Bool.{Bool, true, false, cond, not, _&&_}
+use lib.ListN.{replicate}
 use mathlib.Core.List.{List, [], _∷_}
 use lib.Dec.{eqb, ltb}
 use borrow.Author.Tests.{eqb-true, eqb-false, eq-eqb, ne-eqb, le-ltb, ltb-false, not-true}
 use Rattle.jhash.specs.NameHash.{hashOf}
 use Rattle.image.specs.Bytes.{word, filter}
 use Rattle.image.specs.Head.{tableAt, bucketNumber}
-use Rattle.image.specs.Image.{Placed, inTable, ofTable}
+use Rattle.image.specs.Image.{Placed, headSize, inTable, ofTable, backSize, backIn}
+use Rattle.image.specs.Stored.{whole, between}
+use Rattle.image.specs.Tally.{tallied}
 use Rattle.image.specs.Tables.{Bucket, tableOf, start}
 use Rattle.image.specs.Zero.{hasZero}
 use Rattle.image.specs.steps.Contracts.{offsetAt, hidden}
@@ -19,7 +22,9 @@ use Rattle.image.proofs.AllOfList.{All}
 use Rattle.serialize.proofs.EntryAdded.{firstEmpty-below}
 use Rattle.canonical.specs.steps.HiddenBuckets.{putBucket, Stands}
 use Rattle.canonical.specs.steps.InPlace.{slotsAt}
-use Rattle.canonical.specs.steps.Checks.{inItsBucket, entryOk, entriesOk, notBefore}
+use Rattle.canonical.specs.Canonical.{modeIn}
+use Rattle.canonical.specs.steps.Checks.{inItsBucket, entryOk, entriesOk, notBefore, entriesTo, placedFrom, rowsOk, countsMatch, twoWay, entriesValid}
+use Rattle.canonical.specs.steps.Checks.{linksCounted, bodyOk}
 use Rattle.canonical.proofs.TableChecks.{and3-facts}
 
 -- ---- an entry in its table, as it is read
@@ -96,3 +101,36 @@ ahead-facts at w h = ltb-false w at (not-true (ltb w at) h)
 
 pub ahead-checked : (at w : ℕ) → at ≤ w → notBefore true at w ≡ true
 ahead-checked at w h = rw (le-ltb w at h)
+
+-- ---- all behind the head
+
+pub record Body (img : List ℕ) (n end back : ℕ) : Type 0 where
+  pub rows : rowsOk img end ≡ true
+  pub wholes : whole n (between img headSize end) ≡ true
+  pub entries : entriesOk img (twoWay img) (end + 16 * n) (placedFrom img end n headSize) ≡ true
+  pub counts : countsMatch img (tallied (replicate 256 0) (entriesTo img end n)) ≡ true
+  pub backs : back ≡ backIn (modeIn img) (backSize (entriesTo img end n))
+  pub links : cond (twoWay img) (linksCounted img (end + 16 * n) back (placedFrom img end n headSize)) true ≡ true
+
+pub body-facts : (img : List ℕ) (n end back : ℕ) → bodyOk img n end back ≡ true → Body img n end back
+unfolding bodyOk
+body-facts img n end back h =
+    let valid = entriesValid img end n (twoWay img) (end + 16 * n) in
+    let counted = countsMatch img (tallied (replicate 256 0) (entriesTo img end n)) in
+    let backs : ℕ = backIn (modeIn img) (backSize (entriesTo img end n)) in
+    let (first, back-is, links) = and3-facts (rowsOk img end && valid && counted) (eqb back backs) _ h in
+    let (rows, entries, counts) = and3-facts (rowsOk img end) valid counted first in
+    let wholes = whole n (between img headSize end) in
+    record {
+      rows = rows;
+      wholes = and-first wholes _ entries;
+      entries = and-second wholes _ entries;
+      counts = counts;
+      backs = eqb-true back backs back-is;
+      links = links;
+    }
+
+pub body-checked : (img : List ℕ) (n end back : ℕ) → Body img n end back → bodyOk img n end back ≡ true
+unfolding bodyOk
+body-checked img n end back t =
+    rw (t .rows, t .wholes, t .entries, t .counts, eq-eqb back (backIn (modeIn img) (backSize (entriesTo img end n))) (t .backs)) (t .links)
