@@ -13,13 +13,13 @@ use Rattle.image.proofs.Words.{word-drop, length-le32}
 pub at-nothing : (img : List ℕ) (o : ℕ) → At img o []
 at-nothing img o = record { post = drop o img; stands = refl }
 
-pub at-join : {img : List ℕ} {o : ℕ} (xs ys : List ℕ) → At img o xs → At img (o + length xs) ys → At img o (xs ++ ys)
-at-join {img} {o} xs ys a b = record {
+pub at-join : {img : List ℕ} {o p : ℕ} {xs ys : List ℕ} → At img o xs → o + length xs ≡ p → At img p ys → At img o (xs ++ ys)
+at-join {img} {o} {p} {xs} {ys} a e b = record {
   post = b .post;
   stands =
       a .stands
       ∙ ap (λ (l : List ℕ). xs ++ l)
-      (sym (drop-append-seam xs (a .post)) ∙ ap (drop (length xs)) (sym (a .stands)) ∙ drop-drop (length xs) o img ∙ b .stands)
+      (sym (drop-append-seam xs (a .post)) ∙ ap (drop (length xs)) (sym (a .stands)) ∙ drop-drop (length xs) o img ∙ ap (λ (k : ℕ). drop k img) e ∙ b .stands)
       ∙ sym (append-assoc xs ys (b .post));
 }
 
@@ -38,8 +38,7 @@ unfolding cat range
 at-cat {img} f pos grow s zero each = at-nothing img (pos s)
 at-cat {img} f pos grow s (suc n) each =
     let z : s + 0 ≡ s = omega arith in
-    at-join (f s) (cat f (range (suc s) n)) (rw z at (each 0 (omega arith)))
-    (at-same (grow s) (at-cat f pos grow (suc s) n (λ i h. shift i (each (suc i) (omega arith)))))
+    at-join (rw z at (each 0 (omega arith))) (sym (grow s)) (at-cat f pos grow (suc s) n (λ i h. shift i (each (suc i) (omega arith))))
   where
     shift : (i : ℕ) → At img (pos (s + suc i)) (f (s + suc i)) → At img (pos (suc s + i)) (f (suc s + i))
     shift i a = let z : s + suc i ≡ suc s + i = omega arith in rw z at a
@@ -51,7 +50,7 @@ unfolding cat
 at-parts {A} {img} f size sized o [] d each = at-nothing img o
 at-parts {A} {img} f size sized o (x ∷ xs) d each =
     let z : o + size * 0 ≡ o = omega arith in
-    at-join (f x) (cat f xs) (at-same z (each 0 (omega arith)))
+    at-join (at-same z (each 0 (omega arith))) refl
     (at-parts f size sized (o + length (f x)) xs d (λ i h. at-same (shift (length (f x)) i (sized x)) (each (suc i) (omega arith))))
   where
     shift : (l i : ℕ) → l ≡ size → o + size * suc i ≡ o + l + size * i
@@ -77,5 +76,4 @@ pub at-words : (img : List ℕ) (o : ℕ) (ws : List ℕ) → AllBytes img → o
 unfolding cat
 at-words img o [] bytes h are = at-nothing img o
 at-words img o (w ∷ ws) bytes h are =
-    at-join (le32 w) (cat le32 ws) (at-le32 img o w bytes (omega arith) (are .0))
-    (at-same (ap (λ (n : ℕ). o + n) (sym (length-le32 w))) (at-words img (o + 4) ws bytes (omega arith) (are .1)))
+    at-join (at-le32 img o w bytes (omega arith) (are .0)) (ap (λ (n : ℕ). o + n) (length-le32 w)) (at-words img (o + 4) ws bytes (omega arith) (are .1))

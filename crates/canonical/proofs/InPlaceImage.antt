@@ -100,31 +100,20 @@ module _ (img : List ℕ) (mode : Mode) (es : List Entry) (bytes : AllBytes img)
   unfolding image ps
   in-place-image =
       at-all img (image mode es)
-      (at-join (H ++ R ++ E ++ T) (backWords ps (backSizeOf mode es))
-      (at-join (H ++ R ++ E) T (at-join (H ++ R) E (at-join H R head (at-same (sym l1) rows)) (at-same (sym l2) (ip .entries))) (at-same (sym l3) all-tables))
-      (at-same (sym l4) all-links))
+      (at-join (at-join (at-join (at-join head to-rows rows) to-entries (ip .entries)) to-tables all-tables) to-links all-links)
       (ip .total ∙ sym (length-image mode es))
     where
       H : List ℕ
-      H = headWords mode es
+      H = headWords mode es ++ tableRows (entriesEnd es) ps
 
-      R : List ℕ
-      R = tableRows (entriesEnd es) ps
+      to-rows : 0 + length (headWords mode es) ≡ 24
+      to-rows = omega (arith, length-headWords mode es)
 
-      E : List ℕ
-      E = cat entryBytes es
+      to-entries : 0 + length H ≡ headSize
+      to-entries = simp (length-append, length-headWords, length-tableRows)
 
-      T : List ℕ
-      T = tables ps
+      to-tables : 0 + length (H ++ cat entryBytes es) ≡ entriesEnd es
+      to-tables = omega (arith, to-entries, length-append H (cat entryBytes es), length-entries es)
 
-      l1 : 0 + length H ≡ 24
-      l1 = omega (arith, length-headWords mode es)
-
-      l2 : 0 + length (H ++ R) ≡ headSize
-      l2 = omega (arith, length-append H R, l1, length-tableRows (entriesEnd es) ps)
-
-      l3 : 0 + length (H ++ R ++ E) ≡ entriesEnd es
-      l3 = omega (arith, length-append (H ++ R) E, l2, length-entries es)
-
-      l4 : 0 + length (H ++ R ++ E ++ T) ≡ entriesEnd es + 16 * length es
-      l4 = omega (arith, length-append (H ++ R ++ E) T, l3, length-tables ps, many)
+      to-links : 0 + length (H ++ cat entryBytes es ++ tables ps) ≡ entriesEnd es + 16 * length es
+      to-links = omega (arith, to-tables, length-append (H ++ cat entryBytes es) (tables ps), length-tables ps, many)
