@@ -62,6 +62,20 @@ first-found at (k ∷ ks) i h z = found-from (eqb (at k) 0) refl i h z (λ j l y
     found-from false e zero h z rest = absurd (eqb-false (at k) 0 e z)
     found-from false e (suc i) h z rest = rest i (omega arith) z
 
+-- a table of n buckets that took m entries, all before offset a
+record Inserted (n : ℕ) (table : List Bucket) (m a : ℕ) : Type 0 where
+  sized : length table ≡ n
+  zeros : (k : ℕ) → atOf table k ≡ 0 → getD table k empty ≡ empty
+  used : usedTo (atOf table) n ≡ m
+  below : (k : ℕ) → atOf table k < a
+
+-- the finished table, where F took m entries before offset a and bs are those from a on
+record Holds (n : ℕ) (slots : ℕ → Bucket) (F bs : List Bucket) (m a : ℕ) : Type 0 where
+  was : (k : ℕ) → k < n → getD F k empty ≡ hide a (slots k)
+  zeros : (k : ℕ) → k < n → slots k .at ≡ 0 → slots k ≡ empty
+  used : usedTo (λ (k : ℕ). slots k .at) n ≡ m + length bs
+  stand : All (Stands n slots) bs
+
 module _ (n : ℕ) (slots : ℕ → Bucket) where
   abbrev put : Bucket → ℕ
   put b = putBucket n slots b
@@ -172,14 +186,7 @@ module _ (n : ℕ) (slots : ℕ → Bucket) where
 
   -- ---- the filled table matches
 
-  -- what holds of a table that took m entries, all before offset a
-  record Inserted (table : List Bucket) (m a : ℕ) : Type 0 where
-    sized : length table ≡ n
-    zeros : (k : ℕ) → atOf table k ≡ 0 → getD table k empty ≡ empty
-    used : usedTo (atOf table) n ≡ m
-    below : (k : ℕ) → atOf table k < a
-
-  inserted-none : Inserted (replicate n empty) 0 1
+  inserted-none : Inserted n (replicate n empty) 0 1
   inserted-none = record {
     sized = length-replicate n empty;
     zeros = λ k z. getD-empties n k;
@@ -187,7 +194,7 @@ module _ (n : ℕ) (slots : ℕ → Bucket) where
     below = λ k. let e = ap at (getD-empties n k) in omega arith;
   }
 
-  module _ (F : List Bucket) (m a : ℕ) (x : Bucket) (t : Inserted F m a) (room : m < n) (pos : 0 < a) (le : a ≤ x .at) where
+  module _ (F : List Bucket) (m a : ℕ) (x : Bucket) (t : Inserted n F m a) (room : m < n) (pos : 0 < a) (le : a ≤ x .at) where
     slot : ℕ
     slot = firstEmpty (atOf F) (probeSequence n n (start (x .hash) n))
 
@@ -212,7 +219,7 @@ module _ (n : ℕ) (slots : ℕ → Bucket) where
     unfolding insert slot
     kept k d = getD-set-other F slot k x empty d
 
-    inserted-one : Inserted (insert n F x) (suc m) (suc (x .at))
+    inserted-one : Inserted n (insert n F x) (suc m) (suc (x .at))
     inserted-one = record {
       sized = length-insert n F x ∙ t .sized;
       zeros = λ k z. elim (ℕ-discrete k slot) [
@@ -257,14 +264,8 @@ module _ (n : ℕ) (slots : ℕ → Bucket) where
                 | no m ↦ omega arith
               ]
 
-  record Holds (F bs : List Bucket) (m a : ℕ) : Type 0 where
-    was : (k : ℕ) → k < n → getD F k empty ≡ hide a (slots k)
-    zeros : (k : ℕ) → k < n → slots k .at ≡ 0 → slots k ≡ empty
-    used : usedTo offset n ≡ m + length bs
-    stand : All (Stands n slots) bs
-
-  all-hold : (F : List Bucket) (m a : ℕ) (bs : List Bucket) → Inserted F m a → 0 < a → m + length bs ≤ n → Rising a (bucketOffsets bs)
-      → ((k : ℕ) → k < n → slots k ≡ getD (insertAll n F bs) k empty) → Holds F bs m a
+  all-hold : (F : List Bucket) (m a : ℕ) (bs : List Bucket) → Inserted n F m a → 0 < a → m + length bs ≤ n → Rising a (bucketOffsets bs)
+      → ((k : ℕ) → k < n → slots k ≡ getD (insertAll n F bs) k empty) → Holds n slots F bs m a
   unfolding insertAll slot
   all-hold F m a [] t pos room r is = record {
     was = λ k h. sym (ap (hide a) (is k h) ∙ hide-shows a (getD F k empty) (t .below k));

@@ -102,14 +102,14 @@ module _ (img : List ℕ) (o c : ℕ) where
 
 -- ---- all rows
 
-module _ (img : List ℕ) (end : ℕ) where
-  -- what a row and its table are
-  pub record Row (t : ℕ) : Type 0 where
-    pub number : bucketNumber img t ≡ 2 * rowCount img t
-    pub offset : tableAt img t ≡ cond (eqb (rowCount img t) 0) 0 (tablePlace img end t)
-    pub table : tableOk img (tablePlace img end t) (rowCount img t) ≡ true
+-- what row t and its table are
+pub record Row (img : List ℕ) (end t : ℕ) : Type 0 where
+  pub number : bucketNumber img t ≡ 2 * rowCount img t
+  pub offset : tableAt img t ≡ cond (eqb (rowCount img t) 0) 0 (tablePlace img end t)
+  pub table : tableOk img (tablePlace img end t) (rowCount img t) ≡ true
 
-  pub row-facts : rowsOk img end ≡ true → (t : ℕ) → t < 256 → Row t
+module _ (img : List ℕ) (end : ℕ) where
+  pub row-facts : rowsOk img end ≡ true → (t : ℕ) → t < 256 → Row img end t
   unfolding rowOk
   row-facts h t l =
       let wanted : ℕ = cond (eqb (rowCount img t) 0) 0 (tablePlace img end t) in
@@ -117,7 +117,7 @@ module _ (img : List ℕ) (end : ℕ) where
       (below-each (rowOk img end) 256 t h l) in
       record { number = eqb-true (bucketNumber img t) (2 * rowCount img t) number; offset = eqb-true (tableAt img t) wanted offset; table = table }
 
-  pub row-checked : ((t : ℕ) → t < 256 → Row t) → rowsOk img end ≡ true
+  pub row-checked : ((t : ℕ) → t < 256 → Row img end t) → rowsOk img end ≡ true
   unfolding rowOk
   row-checked rows = below-all (rowOk img end) 256 one
     where
@@ -128,7 +128,7 @@ module _ (img : List ℕ) (end : ℕ) where
           rw (eq-eqb (bucketNumber img t) (2 * rowCount img t) (r .number), eq-eqb (tableAt img t) wanted (r .offset)) (r .table)
 
   -- a table with buckets is where its row must say
-  pub row-place : {t : ℕ} → Row t → 0 < bucketNumber img t → tableAt img t ≡ tablePlace img end t
+  pub row-place : {t : ℕ} → Row img end t → 0 < bucketNumber img t → tableAt img t ≡ tablePlace img end t
   row-place {t} r some = r .offset ∙ ap (λ (b : Bool). cond b 0 (tablePlace img end t)) (ne-eqb (rowCount img t) 0 (λ z. omega (arith, r .number)))
 
   -- and so it lies in the image
