@@ -2,7 +2,7 @@
 use Prim.Native.Nat.{ℕ, suc, _+_, _*_, _-_, _≤_, _<_, max}
 use native.Mathlib.Omega.{arith}
 use mathlib.Core.Path.{_≡_, refl, sym, ap, ap₂, _∙_}
-use mathlib.Core.Bool.{Bool, true, false, cond, _&&_}
+use mathlib.Core.Bool.{Bool, true, false, cond, _&&_, and-true, and-false}
 use mathlib.Core.List.{List, _∷_}
 use lib.ListN.{length, drop, length-take, length-drop}
 use lib.Dec.{eqb}
@@ -106,13 +106,10 @@ module _ {img : List ℕ} {end entries : ℕ} {two : Bool} {o : ℕ} {counts₀ 
     pub entering-wrong : (p && q) ≡ false → {counts₁ : List ℕ}
         → EntriesFound img end entries two o counts₀ counts₁ (record { valid = false; back = 0; linked = 0 })
     entering-wrong z =
+        let wholes = whole entries (between img 2072 end) in
         not-valid
-        (no-second (whole entries (between img 2072 end)) (entriesOk img two o (placedFrom img end entries 2072))
-        (sym (entries-step ∙ ap (λ (b : Bool). b && entriesOk img two o later) z) ∙ e .valid-same))
-      where
-        no-second : (a b : Bool) → false ≡ b → false ≡ (a && b)
-        no-second true b h = h
-        no-second false b h = refl
+        (sym (and-false wholes)
+        ∙ ap (λ (b : Bool). wholes && b) (sym (entries-step ∙ ap (λ (b : Bool). b && entriesOk img two o later) z) ∙ e .valid-same))
 
     pub entering-next : (p && q) ≡ true → (b : ℕ) (counts₁ : List ℕ) → n < 4294967296 → id < 4294967296 → OneIf w at b → counts₁ ≡ raisedCounts counts h
         → Entering img end entries two o counts₀ (at + (8 + n)) (left - 1) (max back (id + 1)) (linked + b) counts₁
@@ -138,12 +135,8 @@ entering-end {img} {end} {entries} {two} {o} {counts₀} {at} {back} {linked} {c
     let all : true ≡ entriesOk img two o (placedFrom img end entries 2072) = e .valid-same in
     let links : linked + 0 ≡ selfLinks (linkAt img o) (placedFrom img end entries 2072) = e .linked-same in
     record {
-      valid = w .0 ∙ and-all (whole entries (between img 2072 end)) ∙ ap (λ (b : Bool). whole entries (between img 2072 end) && b) all;
+      valid = w .0 ∙ sym (and-true (whole entries (between img 2072 end))) ∙ ap (λ (b : Bool). whole entries (between img 2072 end) && b) all;
       back = λ y. w .1;
       linked = λ y. omega arith;
       by-table = λ y. w .2;
     }
-  where
-    and-all : (a : Bool) → a ≡ (a && true)
-    and-all true = refl
-    and-all false = refl
