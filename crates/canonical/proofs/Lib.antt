@@ -27,4 +27,4 @@ pub mod EntryLoop
 -- lists of calls, the theorem, and worked examples
 pub mod ListImages
 pub mod Theorem
-pub mod Rows
+pub mod ExampleRows

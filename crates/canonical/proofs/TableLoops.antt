@@ -125,8 +125,8 @@ module _ {img : List ℕ} {end o t : ℕ} (p : CheckRowsPre img end) (r : Rows i
     number-yes : eqb (bucketNumber img t) (2 * rowCount img t) ≡ true
     number-yes = eq-eqb (bucketNumber img t) (2 * rowCount img t) even
 
-    pub row-offset : (Offset → ⊥) → false ≡ rowsOk img end
-    row-offset d =
+    pub table-offset : (Offset → ⊥) → false ≡ rowsOk img end
+    table-offset d =
         all-fail (rowOk img end) t more (row-is ∙ rw (number-yes, ne-eqb (tableAt img t) (cond (eqb (rowCount img t) 0) 0 o) d)) (r .same)
 
     module _ (there : Offset) (ok : Bool) (table : ok ≡ tableOk img o (rowCount img t)) where

@@ -31,7 +31,7 @@ next : (c : tie.After-used-bit Inv-loop μ-loop)
 next c =
     let l = c .before .before in
     record {
-      links = used-next (l .before .loop .inv .links) (c .used-bit .result) (c .used-bit .ensures ∙ ap (bit 1) (c .before .get-u32 .ensures));
+      links = used-next (l .before .loop .inv .links) (c .used-bit .result) (c .used-bit .ensures ∙ ap (bit 1) (c .before .word-or-zero .ensures));
       inside = omega (arith, l .loop-test .taken);
     }
 
