@@ -1,21 +1,20 @@
--- Links that are linked are those of the entries: each link is the offset of its id's last entry. Assumes nothing.
+-- Links match the entries exactly where each is the offset of its id's last entry. Assumes nothing.
 use Prim.Native.Nat.{ℕ, suc, _+_, _≤_, _<_}
 use native.Mathlib.Omega.{arith}
-use native.Mathlib.Decide.{decLt, ℕ-discrete}
-use mathlib.Core.Path.{_≡_, refl, sym, ap, _∙_}
-use mathlib.Core.Logic.{_⊎_, inl, inr}
+use native.Mathlib.Decide.{decLe, ℕ-discrete}
+use mathlib.Core.Path.{_≡_, refl, sym, _∙_}
 use mathlib.Core.Bool.{cond}
 use mathlib.Core.List.{List, [], _∷_, map}
-use lib.ListN.{length, getD, List·getD-eq-default}
-use lib.Dec.{eqb, leb}
-use borrow.Author.Tests.{eq-eqb, ne-eqb, le-leb, lt-leb}
+use lib.Dec.{eqb}
+use borrow.Author.Tests.{eq-eqb, ne-eqb}
 use Rattle.image.specs.Bytes.{filter}
 use Rattle.image.specs.Image.{Placed, placedOfId, lastFrom, backWord}
-use Rattle.image.proofs.AllOfList.{All}
-use Rattle.canonical.specs.steps.HiddenBuckets.{countAtLeast, Rising, selfLinks, BackArrayMatches}
-use Rattle.canonical.proofs.CountAtLeast.{countAtLeast-in, countAtLeast-only, countAtLeast-mono, countAtLeast-same, countAtLeast-one, countAtLeast-none}
+use Rattle.image.proofs.AllOfList.{All, all-map}
+use Rattle.canonical.specs.steps.HiddenBuckets.{bit, Rising, BackArrayMatches}
+use Rattle.canonical.proofs.Sums.{bit-yes, bit-no, sum-same}
+use Rattle.canonical.proofs.Cells as cells
 
--- the offsets of entries
+-- the offsets of entries, and their ids
 abbrev pub offsets : List Placed → List ℕ
 offsets ps = map (λ (p : Placed). p .at) ps
 
@@ -31,204 +30,92 @@ after-other : (i x : ℕ) (p : Placed) (ps : List Placed) → (p .entry .id ≡ 
 unfolding placedOfId filter lastFrom
 after-other i x p ps d = rw (ne-eqb (p .entry .id) i d)
 
-after-none : (i x : ℕ) → after i x [] ≡ x
-unfolding placedOfId filter lastFrom
-after-none i x = refl
+-- what holds of each element for its own number
+pub all-own : {A : Type 0} (P : ℕ → A → Type 0) (g : A → ℕ) (n : ℕ) (xs : List A) → All (λ (x : A). g x < n) xs
+    → ((i : ℕ) → i < n → All (P i) xs) → All (λ (x : A). P (g x) x) xs
+all-own P g n [] inside each = tt
+all-own P g n (x ∷ xs) inside each = (each (g x) (inside .0) .0, all-own P g n xs (inside .1) (λ i h. each i h .1))
 
-self-yes : (l : List ℕ) (p : Placed) (ps : List Placed) → getD l (p .entry .id) 0 ≡ p .at → selfLinks l (p ∷ ps) ≡ 1 + selfLinks l ps
-unfolding selfLinks
-self-yes l p ps e = rw (eq-eqb (getD l (p .entry .id) 0) (p .at) e)
+module _ (l : ℕ → ℕ) where
+  abbrev id : Placed → ℕ
+  id p = p .entry .id
 
-self-no : (l : List ℕ) (p : Placed) (ps : List Placed) → (getD l (p .entry .id) 0 ≡ p .at → ⊥) → selfLinks l (p ∷ ps) ≡ selfLinks l ps
-unfolding selfLinks
-self-no l p ps d = rw (ne-eqb (getD l (p .entry .id) 0) (p .at) d) (omega arith)
+  abbrev own : ℕ → List Placed → ℕ
+  own i ps = cells.own id (λ (p : Placed). p .at) l i ps
 
--- a number above 0 is in the list
-inside : (l : List ℕ) (i : ℕ) → 0 < getD l i 0 → i < length l
-inside l i h =
-    elim (decLt i (length l)) [
-      | yes k ↦ k
-      | no k ↦ absurd (omega (arith, List·getD-eq-default l 0 {n = i} (omega arith)))
-    ]
+  own-here : (i : ℕ) (p : Placed) (ps : List Placed) → id p ≡ i → own i (p ∷ ps) ≡ cond (eqb (l i) (p .at)) 1 0 + own i ps
+  own-here i p ps e = cells.own-here id (λ (p : Placed). p .at) l i p ps e
 
--- ---- linked links are right
+  own-other : (i : ℕ) (p : Placed) (ps : List Placed) → (id p ≡ i → ⊥) → own i (p ∷ ps) ≡ own i ps
+  own-other i p ps d = cells.own-other id (λ (p : Placed). p .at) l i p ps d
 
-module _ (l : List ℕ) where
-  self-most : (a : ℕ) (ps : List Placed) → 0 < a → Rising a (offsets ps) → selfLinks l ps ≤ countAtLeast a l
-  unfolding selfLinks
-  self-most a [] p r = omega arith
-  self-most a (q ∷ ps) p r =
-      let h = r .0 in
-      let rest = self-most (suc (q .at)) ps (omega arith) (r .1) in
-      elim (ℕ-discrete (getD l (q .entry .id) 0) (q .at)) [
-        | yes e ↦
-            let there = countAtLeast-in a (suc (q .at)) l (q .entry .id) (inside l (q .entry .id) (omega arith)) (omega arith) (omega arith) in
-            omega (arith, self-yes l q ps e, there)
-        | no d ↦ omega (arith, self-no l q ps d, countAtLeast-mono a (suc (q .at)) l (omega arith))
+  -- if an id's link is one of its entries' offsets, and none of them is larger, it is the last one
+  link-last : (i x a : ℕ) (ps : List Placed) → x < a → Rising a (offsets ps) → All (λ (p : Placed). p .at ≤ l (id p)) ps → x ≤ l i
+      → own i ps ≡ bit (suc x) (l i) → after i x ps ≡ l i
+  unfolding placedOfId filter lastFrom
+  link-last i x a [] h r s le e =
+      elim (decLe (suc x) (l i)) [
+        | yes k ↦ absurd (omega (arith, bit-yes (suc x) (l i) k, cells.own-none id (λ (p : Placed). p .at) l i))
+        | no k ↦ omega arith
       ]
-
-  -- a link that points from a on, else what was before
-  abbrev from : ℕ → ℕ → ℕ → ℕ
-  from a i x = cond (leb a (getD l i 0)) (getD l i 0) x
-
-  from-yes : (a i x : ℕ) → a ≤ getD l i 0 → from a i x ≡ getD l i 0
-  from-yes a i x h = rw (le-leb a (getD l i 0) h)
-
-  from-no : (a i x : ℕ) → getD l i 0 < a → from a i x ≡ x
-  from-no a i x h = rw (lt-leb a (getD l i 0) h)
-
-  -- where the counts agree, no other link points from a to the first entry
-  exact : (a : ℕ) (q : Placed) (ps : List Placed) → 0 < a → a ≤ q .at → Rising (suc (q .at)) (offsets ps) → countAtLeast a l ≡ selfLinks l (q ∷ ps)
-      → (countAtLeast (suc (q .at)) l ≡ selfLinks l ps)
-      × ((i : ℕ) → i < length l → a ≤ getD l i 0 → getD l i 0 < suc (q .at) → (i ≡ q .entry .id) × (getD l i 0 ≡ q .at))
-  exact a q ps p le r e =
-      let least = self-most (suc (q .at)) ps (omega arith) r in
-      let mono = countAtLeast-mono a (suc (q .at)) l (omega arith) in
-      elim (ℕ-discrete (getD l (q .entry .id) 0) (q .at)) [
-        | yes t ↦
-            let one = self-yes l q ps t in
-            let k = inside l (q .entry .id) (omega arith) in
-            let more = countAtLeast-in a (suc (q .at)) l (q .entry .id) k (omega arith) (omega arith) in
-            let f : countAtLeast (suc (q .at)) l ≡ selfLinks l ps = omega arith in (
-              f,
-              λ i h u v. let same : i ≡ q .entry .id = countAtLeast-only a (suc (q .at)) l i (q .entry .id) (omega arith) h k u v (omega arith) (omega arith) in
-                  (same, ap (λ (j : ℕ). getD l j 0) same ∙ t),
-            )
-        | no t ↦
-            let one = self-no l q ps t in
-            let f : countAtLeast (suc (q .at)) l ≡ selfLinks l ps = omega arith in
-            (f, λ i h u v. absurd (omega (arith, countAtLeast-in a (suc (q .at)) l i h u v)))
+  link-last i x a (q ∷ ps) h r s le e =
+      let first = r .0 in
+      elim (ℕ-discrete (id q) i) [
+        | yes z ↦
+            let ahead : q .at ≤ l i = rw z at (s .0) in
+            after-own i x q ps z ∙ link-last i (q .at) (suc (q .at)) ps (omega arith) (r .1) (s .1) ahead (rest ahead (own-here i q ps z))
+        | no z ↦ after-other i x q ps z ∙ link-last i x (suc (q .at)) ps (omega arith) (r .1) (s .1) le (sym (own-other i q ps z) ∙ e)
       ]
-
-  after-from : (a : ℕ) (ps : List Placed) → 0 < a → Rising a (offsets ps) → All (λ (p : Placed). p .at ≤ getD l (p .entry .id) 0) ps
-      → countAtLeast a l ≡ selfLinks l ps → (i x : ℕ) → i < length l → after i x ps ≡ from a i x
-  unfolding selfLinks
-  after-from a [] p r s e i x h =
-      elim (decLt (getD l i 0) a) [
-        | yes k ↦ after-none i x ∙ sym (from-no a i x k)
-        | no k ↦ absurd (omega (arith, countAtLeast-in a (suc (getD l i 0)) l i h (omega arith) (omega arith)))
-      ]
-  after-from a (q ∷ ps) p r s e i x h =
-      let le = r .0 in
-      let (f, only) = exact a q ps p le (r .1) e in
-      let rest = after-from (suc (q .at)) ps (omega arith) (r .1) (s .1) f i in
-      elim (ℕ-discrete (q .entry .id) i) [
-        | yes g ↦
-            let ah : q .at ≤ getD l i 0 = rw g at (s .0) in
-            after-own i x q ps g ∙ rest (q .at) h
-            ∙ elim (decLt (getD l i 0) (suc (q .at))) [
-              | yes k ↦ from-no (suc (q .at)) i (q .at) k ∙ sym (only i h (omega arith) k .1) ∙ sym (from-yes a i x (omega arith))
-              | no k ↦ from-yes (suc (q .at)) i (q .at) (omega arith) ∙ sym (from-yes a i x (omega arith))
-            ]
-        | no d ↦
-            after-other i x q ps d ∙ rest x h
-            ∙ elim (decLt (getD l i 0) a) [
-              | yes k ↦ from-no (suc (q .at)) i x (omega arith) ∙ sym (from-no a i x k)
-              | no k ↦ elim (decLt (getD l i 0) (suc (q .at))) [
-                | yes m ↦ absurd (d (sym (only i h (omega arith) m .0)))
-                | no m ↦ from-yes (suc (q .at)) i x (omega arith) ∙ sym (from-yes a i x (omega arith))
-              ]
-            ]
-      ]
-
-pub matching-link : (l : List ℕ) (ps : List Placed) → Rising 1 (offsets ps) → BackArrayMatches l ps → (i : ℕ) → i < length l → backWord ps i ≡ getD l i 0
-unfolding backWord
-matching-link l ps r k i h =
-    after-from l 1 ps (omega arith) r (k .ahead) (k .used) i 0 h
-    ∙ elim (decLt (getD l i 0) 1) [
-      | yes m ↦ from-no l 1 i 0 m ∙ omega arith
-      | no m ↦ from-yes l 1 i 0 (omega arith)
-    ]
-
--- ---- the links of entries are linked
-
--- a link stays, or points from a on
-after-cases : (a : ℕ) (ps : List Placed) → Rising a (offsets ps) → (i x : ℕ) → (after i x ps ≡ x) ⊎ (a ≤ after i x ps)
-after-cases a [] r i x = inl (after-none i x)
-after-cases a (q ∷ ps) r i x =
-    let le = r .0 in
-    elim (ℕ-discrete (q .entry .id) i) [
-      | yes g ↦ elim (after-cases (suc (q .at)) ps (r .1) i (q .at)) [
-        | inl e ↦ let f = after-own i x q ps g in inr (omega arith)
-        | inr e ↦ let f = after-own i x q ps g in inr (omega arith)
-      ]
-      | no d ↦ elim (after-cases (suc (q .at)) ps (r .1) i x) [
-        | inl e ↦ inl (after-other i x q ps d ∙ e)
-        | inr e ↦ let f = after-other i x q ps d in inr (omega arith)
-      ]
-    ]
-
-module _ (l : List ℕ) where
-  linked-from : (a : ℕ) (ps : List Placed) (before : ℕ → ℕ) → 0 < a → Rising a (offsets ps) → All (λ (p : Placed). p .entry .id < length l) ps
-      → ((i : ℕ) → before i < a) → ((i : ℕ) → i < length l → getD l i 0 ≡ after i (before i) ps)
-      → All (λ (p : Placed). p .at ≤ getD l (p .entry .id) 0) ps × (countAtLeast a l ≡ selfLinks l ps)
-  unfolding selfLinks
-  linked-from a [] before p r ids low is =
-      (tt, countAtLeast-none a l (λ i h. omega (arith, is i h, after-none i (before i), low i)))
-  linked-from a (q ∷ ps) before p r ids low is =
-      let le = r .0 in
-      let (ahead, used) = linked-from (suc (q .at)) ps next (omega arith) (r .1) (ids .1) next-low next-is in
-      ((own-ahead, ahead), count used (ℕ-discrete (getD l (q .entry .id) 0) (q .at)))
     where
-      next : ℕ → ℕ
-      next i = cond (eqb (q .entry .id) i) (q .at) (before i)
-
-      next-own : (i : ℕ) → q .entry .id ≡ i → next i ≡ q .at
-      next-own i e = rw (eq-eqb (q .entry .id) i e)
-
-      next-other : (i : ℕ) → (q .entry .id ≡ i → ⊥) → next i ≡ before i
-      next-other i d = rw (ne-eqb (q .entry .id) i d)
-
-      next-low : (i : ℕ) → next i < suc (q .at)
-      next-low i =
-          let le = r .0 in
-          elim (ℕ-discrete (q .entry .id) i) [
-            | yes e ↦ omega (arith, next-own i e)
-            | no d ↦ omega (arith, next-other i d, low i)
+      rest : q .at ≤ l i → own i (q ∷ ps) ≡ cond (eqb (l i) (q .at)) 1 0 + own i ps → own i ps ≡ bit (suc (q .at)) (l i)
+      rest ahead o =
+          let first = r .0 in
+          let some = bit-yes (suc x) (l i) (omega arith) in
+          elim (ℕ-discrete (l i) (q .at)) [
+            | yes z ↦ let f = rw (eq-eqb (l i) (q .at) z) at o in omega (arith, bit-no (suc (q .at)) (l i) (omega arith))
+            | no z ↦ let f = rw (ne-eqb (l i) (q .at) z) at o in omega (arith, bit-yes (suc (q .at)) (l i) (omega arith))
           ]
 
-      next-is : (i : ℕ) → i < length l → getD l i 0 ≡ after i (next i) ps
-      next-is i h =
-          elim (ℕ-discrete (q .entry .id) i) [
-            | yes e ↦ is i h ∙ after-own i (before i) q ps e ∙ ap (λ (x : ℕ). after i x ps) (sym (next-own i e))
-            | no d ↦ is i h ∙ after-other i (before i) q ps d ∙ ap (λ (x : ℕ). after i x ps) (sym (next-other i d))
+  -- and the last one is no smaller than any
+  last-owned : (i x a : ℕ) (ps : List Placed) → x < a → Rising a (offsets ps) → after i x ps ≡ l i
+      → (x ≤ l i) × (own i ps ≡ bit (suc x) (l i)) × All (λ (p : Placed). id p ≡ i → p .at ≤ l i) ps
+  unfolding placedOfId filter lastFrom
+  last-owned i x a [] h r e = (omega arith, cells.own-none id (λ (p : Placed). p .at) l i ∙ sym (bit-no (suc x) (l i) (omega arith)), tt)
+  last-owned i x a (q ∷ ps) h r e =
+      let first = r .0 in
+      elim (ℕ-discrete (id q) i) [
+        | yes z ↦
+            let (le, o, s) = last-owned i (q .at) (suc (q .at)) ps (omega arith) (r .1) (sym (after-own i x q ps z) ∙ e) in
+            (omega arith, own-here i q ps z ∙ here le o, ((λ y. le), s))
+        | no z ↦
+            let (le, o, s) = last-owned i x (suc (q .at)) ps (omega arith) (r .1) (sym (after-other i x q ps z) ∙ e) in
+            (le, own-other i q ps z ∙ o, ((λ y. absurd (z y)), s))
+      ]
+    where
+      here : q .at ≤ l i → own i ps ≡ bit (suc (q .at)) (l i) → cond (eqb (l i) (q .at)) 1 0 + own i ps ≡ bit (suc x) (l i)
+      here le o =
+          let first = r .0 in
+          let some = bit-yes (suc x) (l i) (omega arith) in
+          elim (ℕ-discrete (l i) (q .at)) [
+            | yes z ↦ rw (eq-eqb (l i) (q .at) z) (omega (arith, bit-no (suc (q .at)) (l i) (omega arith)))
+            | no z ↦ rw (ne-eqb (l i) (q .at) z) (omega (arith, bit-yes (suc (q .at)) (l i) (omega arith)))
           ]
 
-      own-ahead : q .at ≤ getD l (q .entry .id) 0
-      own-ahead =
-          let i = q .entry .id in
-          let e = next-own i refl in
-          let f = next-is i (ids .0) in
-          elim (after-cases (suc (q .at)) ps (r .1) i (next i)) [
-            | inl g ↦ omega arith
-            | inr g ↦ omega arith
-          ]
+  module _ (n : ℕ) (ps : List Placed) (r : Rising 1 (offsets ps)) (ids : All (λ (p : Placed). id p < n) ps) where
+    pub matching-link : BackArrayMatches n l ps → (i : ℕ) → i < n → backWord ps i ≡ l i
+    unfolding backWord
+    matching-link k i h =
+        link-last i 0 1 ps (omega arith) r (k .ahead) (omega arith) (cells.owned id (λ (p : Placed). p .at) l n ps r ids (k .used) i h)
 
-      -- a link from a to this entry's offset is this entry's
-      mine : (i : ℕ) → i < length l → a ≤ getD l i 0 → getD l i 0 < suc (q .at) → (i ≡ q .entry .id) × (getD l i 0 ≡ q .at)
-      mine i h u v =
-          let f = next-is i h in
-          elim (after-cases (suc (q .at)) ps (r .1) i (next i)) [
-            | inl g ↦ elim (ℕ-discrete (q .entry .id) i) [
-              | yes e ↦ (sym e, f ∙ g ∙ next-own i e)
-              | no d ↦ absurd (omega (arith, next-other i d, low i))
-            ]
-            | inr g ↦ absurd (omega arith)
-          ]
-
-      count : countAtLeast (suc (q .at)) l ≡ selfLinks l ps → Dec (getD l (q .entry .id) 0 ≡ q .at) → countAtLeast a l ≡ selfLinks l (q ∷ ps)
-      count used (yes e) =
-          let le = r .0 in
-          let more = countAtLeast-one a (suc (q .at)) l (q .entry .id) (ids .0) (omega arith) (omega arith) (λ i h u v. mine i h u v .0) in
-          omega (arith, self-yes l q ps e)
-      count used (no d) =
-          let le = r .0 in
-          let same = countAtLeast-same a (suc (q .at)) l (omega arith) (λ i h u v. d (ap (λ (j : ℕ). getD l j 0) (sym (mine i h u v .0)) ∙ mine i h u v .1)) in
-          omega (arith, self-no l q ps d)
-
-pub links-match : (l : List ℕ) (ps : List Placed) → Rising 1 (offsets ps) → All (λ (p : Placed). p .entry .id < length l) ps
-    → ((i : ℕ) → i < length l → getD l i 0 ≡ backWord ps i) → BackArrayMatches l ps
-unfolding backWord
-links-match l ps r ids is =
-    let (ahead, used) = linked-from l 1 ps (λ (i : ℕ). 0) (omega arith) r ids (λ i. omega arith) is in
-    record { ahead = ahead; used = used }
+    pub links-match : ((i : ℕ) → i < n → backWord ps i ≡ l i) → BackArrayMatches n l ps
+    unfolding backWord
+    links-match is = record {
+      ahead =
+          all-map (λ p s. s refl) ps (all-own (λ (i : ℕ) (p : Placed). id p ≡ i → p .at ≤ l i) id n ps ids (λ i h. owned i h .2));
+      used =
+          sym (sum-same (λ (i : ℕ). own i ps) (λ (i : ℕ). bit 1 (l i)) n (λ i h. owned i h .1))
+          ∙ cells.own-sum id (λ (p : Placed). p .at) l n ps ids;
+    }
+      where
+        owned : (i : ℕ) → i < n → (0 ≤ l i) × (own i ps ≡ bit 1 (l i)) × All (λ (p : Placed). id p ≡ i → p .at ≤ l i) ps
+        owned i h = last-owned i 0 1 ps (omega arith) r (is i h)

@@ -1,28 +1,25 @@
 -- Parts that follow one another are their concatenation. Assumes nothing.
 use mathlib.Core.Path.{_≡_, refl, sym, ap, _∙_}
-use mathlib.Core.List.{List, [], _∷_, _++_, append-assoc, append-nil, map}
+use mathlib.Core.List.{List, [], _∷_, _++_, append-assoc, append-nil}
 use Prim.Native.Nat.{ℕ, zero, suc, _+_, _*_, _≤_, _<_}
 use native.Mathlib.Omega.{arith}
-use lib.ListN.{length, getD, drop, length-append, length-drop, length-map}
+use lib.ListN.{length, getD, drop, length-append, length-drop}
 use lib.Seq.{drop-append-seam, drop-drop}
 use Rattle.image.specs.Bytes.{word, le32, cat, range}
-use Rattle.image.specs.Tables.{empty}
 use Rattle.image.proofs.EntryArea.{AllBytes, bytes-drop, front-word}
 use Rattle.image.proofs.At.{At, at-same}
-use Rattle.image.proofs.Lists.{length-range, getD-range}
 use Rattle.image.proofs.Words.{word-drop, length-le32}
-use Rattle.canonical.specs.steps.InPlace.{bucketAt, bucketsInPlace, wordsAt}
 
 pub at-nothing : (img : List ℕ) (o : ℕ) → At img o []
 at-nothing img o = record { post = drop o img; stands = refl }
 
-pub at-join : {img : List ℕ} {o : ℕ} (xs ys : List ℕ) → At img o xs → At img (o + length xs) ys → At img o (xs ++ ys)
-at-join {img} {o} xs ys a b = record {
+pub at-join : {img : List ℕ} {o p : ℕ} {xs ys : List ℕ} → At img o xs → o + length xs ≡ p → At img p ys → At img o (xs ++ ys)
+at-join {img} {o} {p} {xs} {ys} a e b = record {
   post = b .post;
   stands =
       a .stands
       ∙ ap (λ (l : List ℕ). xs ++ l)
-      (sym (drop-append-seam xs (a .post)) ∙ ap (drop (length xs)) (sym (a .stands)) ∙ drop-drop (length xs) o img ∙ b .stands)
+      (sym (drop-append-seam xs (a .post)) ∙ ap (drop (length xs)) (sym (a .stands)) ∙ drop-drop (length xs) o img ∙ ap (λ (k : ℕ). drop k img) e ∙ b .stands)
       ∙ sym (append-assoc xs ys (b .post));
 }
 
@@ -41,8 +38,7 @@ unfolding cat range
 at-cat {img} f pos grow s zero each = at-nothing img (pos s)
 at-cat {img} f pos grow s (suc n) each =
     let z : s + 0 ≡ s = omega arith in
-    at-join (f s) (cat f (range (suc s) n)) (rw z at (each 0 (omega arith)))
-    (at-same (grow s) (at-cat f pos grow (suc s) n (λ i h. shift i (each (suc i) (omega arith)))))
+    at-join (rw z at (each 0 (omega arith))) (sym (grow s)) (at-cat f pos grow (suc s) n (λ i h. shift i (each (suc i) (omega arith))))
   where
     shift : (i : ℕ) → At img (pos (s + suc i)) (f (s + suc i)) → At img (pos (suc s + i)) (f (suc s + i))
     shift i a = let z : s + suc i ≡ suc s + i = omega arith in rw z at a
@@ -54,7 +50,7 @@ unfolding cat
 at-parts {A} {img} f size sized o [] d each = at-nothing img o
 at-parts {A} {img} f size sized o (x ∷ xs) d each =
     let z : o + size * 0 ≡ o = omega arith in
-    at-join (f x) (cat f xs) (at-same z (each 0 (omega arith)))
+    at-join (at-same z (each 0 (omega arith))) refl
     (at-parts f size sized (o + length (f x)) xs d (λ i h. at-same (shift (length (f x)) i (sized x)) (each (suc i) (omega arith))))
   where
     shift : (l i : ℕ) → l ≡ size → o + size * suc i ≡ o + l + size * i
@@ -71,34 +67,13 @@ at-le32 img o w bytes h e = record {
       ∙ ap (λ (k : ℕ). le32 k ++ drop 4 (drop o img)) (word-drop img o 0 ∙ ap (word img) z ∙ e);
 }
 
-pub at-two : (img : List ℕ) (o v w : ℕ) → AllBytes img → o + 8 ≤ length img → word img o ≡ v → word img (o + 4) ≡ w → At img o (le32 v ++ le32 w)
-at-two img o v w bytes h e f =
-    at-join (le32 v) (le32 w) (at-le32 img o v bytes (omega arith) e)
-    (at-same (ap (λ (n : ℕ). o + n) (sym (length-le32 v))) (at-le32 img (o + 4) w bytes (omega arith) f))
+-- words one after the other
+abbrev WordsAre : List ℕ → ℕ → List ℕ → Type 0
+WordsAre img o [] = Unit {0}
+WordsAre img o (w ∷ ws) = (word img o ≡ w) × WordsAre img (o + 4) ws
 
--- ---- buckets and links as they are read
-
-pub getD-run : {A : Type 0} (f : ℕ → A) (n k : ℕ) (d : A) → k < n → getD (map f (range 0 n)) k d ≡ f k
-getD-run {A} f n k d h =
-    getD-map-in f (range 0 n) k d (rw (length-range 0 n) h) ∙ ap f (getD-range 0 n k h ∙ let e : 0 + k ≡ k = omega arith in e)
-  where
-    getD-map-in : (g : ℕ → A) (ks : List ℕ) (j : ℕ) (d : A) → j < length ks → getD (map g ks) j d ≡ g (getD ks j 0)
-    getD-map-in g [] j d h = absurd (omega arith)
-    getD-map-in g (k ∷ ks) zero d h = refl
-    getD-map-in g (k ∷ ks) (suc j) d h = getD-map-in g ks j d (omega arith)
-
-pub getD-bucketsInPlace : (img : List ℕ) (o n k : ℕ) → k < n → getD (bucketsInPlace img o n) k empty ≡ bucketAt img (o + 8 * k)
-unfolding bucketsInPlace
-getD-bucketsInPlace img o n k h = getD-run (λ (k : ℕ). bucketAt img (o + 8 * k)) n k empty h
-
-pub length-bucketsInPlace : (img : List ℕ) (o n : ℕ) → length (bucketsInPlace img o n) ≡ n
-unfolding bucketsInPlace
-length-bucketsInPlace img o n = length-map (range 0 n) (λ (k : ℕ). bucketAt img (o + 8 * k)) ∙ length-range 0 n
-
-pub getD-wordsAt : (img : List ℕ) (o n k : ℕ) → k < n → getD (wordsAt img o n) k 0 ≡ word img (o + 4 * k)
-unfolding wordsAt
-getD-wordsAt img o n k h = getD-run (λ (k : ℕ). word img (o + 4 * k)) n k 0 h
-
-pub length-wordsAt : (img : List ℕ) (o n : ℕ) → length (wordsAt img o n) ≡ n
-unfolding wordsAt
-length-wordsAt img o n = length-map (range 0 n) (λ (k : ℕ). word img (o + 4 * k)) ∙ length-range 0 n
+pub at-words : (img : List ℕ) (o : ℕ) (ws : List ℕ) → AllBytes img → o + 4 * length ws ≤ length img → WordsAre img o ws → At img o (cat le32 ws)
+unfolding cat
+at-words img o [] bytes h are = at-nothing img o
+at-words img o (w ∷ ws) bytes h are =
+    at-join (at-le32 img o w bytes (omega arith) (are .0)) (ap (λ (n : ℕ). o + n) (length-le32 w)) (at-words img (o + 4) ws bytes (omega arith) (are .1))

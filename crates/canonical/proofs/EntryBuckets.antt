@@ -30,30 +30,25 @@ module _ (img : List ℕ) (h at : ℕ) where
 
   module _ {o n s k : ℕ} (eo : o ≡ word img (24 + 8 * (h % 256))) (en : n ≡ word img (28 + 8 * (h % 256))) (nz : n ≡ 0 → ⊥)
       (es : BucketIs (start h n) n s) (ek : BucketIs (firstEmptyBefore img o n s at) n k) (w : ℕ) (ew : w ≡ word img (o + 8 * k)) where
-    taken-is : o + 8 * k ≡ bucketTaken img h at
-    unfolding bucketTaken
+    taken-is : bucketTaken img h at ≡ o + 8 * k
     taken-is =
-        ap₂ (λ (x : ℕ) (y : ℕ). x + 8 * y) eo
+        sym
+        (ap₂ (λ (x y : ℕ). x + 8 * y) eo
         (ek .is ∙ ap (λ (j : ℕ). firstEmptyBefore img o n j at) (es .is)
-        ∙ ap₂ (λ (x : ℕ) (y : ℕ). firstEmptyBefore img x y (start h y) at) eo en)
+        ∙ ap₂ (λ (x y : ℕ). firstEmptyBefore img x y (start h y) at) eo en))
 
-    some : not (eqb (word img (28 + 8 * (h % 256))) 0) ≡ true
-    some = rw (ne-eqb (word img (28 + 8 * (h % 256))) 0 (λ z. nz (en ∙ z)))
+    -- the bucket's two words answer
+    answer : inItsBucket img h at ≡ (eqb (word img (o + 8 * k)) h && eqb (word img (o + 8 * k + 4)) at)
+    unfolding inItsBucket
+    answer =
+        ap (λ (s : ℕ). not (eqb (word img (28 + 8 * (h % 256))) 0) && eqb (word img s) h && eqb (word img (s + 4)) at) taken-is
+        ∙ rw (ne-eqb (word img (28 + 8 * (h % 256))) 0 (λ z. nz (en ∙ z)))
 
     pub bucket-other : (w ≡ h → ⊥) → false ≡ inItsBucket img h at
-    unfolding inItsBucket
-    bucket-other d =
-        let s = bucketTaken img h at in
-        let f : word img s ≡ w = sym (ap (word img) taken-is) ∙ sym ew in
-        sym (ap₂ (λ (a : Bool) (b : Bool). a && b && eqb (word img (s + 4)) at) some (ne-eqb (word img s) h (λ y. d (sym f ∙ y))))
+    bucket-other d = sym (answer ∙ rw (ne-eqb (word img (o + 8 * k)) h (λ y. d (ew ∙ y))))
 
     pub bucket-last : (v : ℕ) → w ≡ h → v ≡ word img (o + 8 * k + 4) → eqb v at ≡ inItsBucket img h at
-    unfolding inItsBucket
-    bucket-last v e ev =
-        let s = bucketTaken img h at in
-        let f : word img s ≡ h = sym (ap (word img) taken-is) ∙ sym ew ∙ e in
-        let g : v ≡ word img (s + 4) = ev ∙ ap (λ (x : ℕ). word img (x + 4)) taken-is in
-        ap (λ (x : ℕ). eqb x at) g ∙ sym (ap₂ (λ (a : Bool) (b : Bool). a && b && eqb (word img (s + 4)) at) some (eq-eqb (word img s) h f))
+    bucket-last v e ev = ap (λ (x : ℕ). eqb x at) ev ∙ sym (answer ∙ rw (eq-eqb (word img (o + 8 * k)) h (sym ew ∙ e)))
 
 -- ---- an entry's name and bucket
 

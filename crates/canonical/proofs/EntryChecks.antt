@@ -1,112 +1,74 @@
--- What the checks of entries and links say. Assumes nothing.
-use Prim.Native.Nat.{ℕ, _+_, _*_, _/_, _≤_, _<_}
+-- What the checks of entries and links say, and all of those behind the head. Assumes nothing.
+use Prim.Native.Nat.{ℕ, _+_, _*_, _/_, _≤_}
 use native.Mathlib.Omega.{arith}
 use native.Mathlib.Nat.{mod-lt}
-use native.Mathlib.Decide.{ℕ-discrete}
-use mathlib.Core.Path.{_≡_, refl, sym, ap, ap₂, _∙_}
+use mathlib.Core.Path.{_≡_, refl, ap}
 use mathlib.Core.Bool.{Bool, true, false, cond, not, _&&_}
-use mathlib.Core.List.{List, [], _∷_, map}
-use lib.ListN.{getD}
+use lib.ListN.{replicate}
+use mathlib.Core.List.{List, [], _∷_}
 use lib.Dec.{eqb, ltb}
 use borrow.Author.Tests.{eqb-true, eqb-false, eq-eqb, ne-eqb, le-ltb, ltb-false, not-true}
 use Rattle.jhash.specs.NameHash.{hashOf}
 use Rattle.image.specs.Bytes.{word, filter}
 use Rattle.image.specs.Head.{tableAt, bucketNumber}
-use Rattle.image.specs.Image.{Placed, inTable, ofTable}
-use Rattle.image.specs.Tables.{Bucket, empty, atOf, tableOf, start, probeSequence}
-use Rattle.image.proofs.Bools.{false-not-true, and-first, and-second, and-both}
-use Rattle.image.proofs.AllOfList.{All, all-map, all-both}
+use Rattle.image.specs.Image.{Placed, headSize, inTable, ofTable, backSize, backIn}
+use Rattle.image.specs.Stored.{whole, between}
+use Rattle.image.specs.Tally.{tallied}
+use Rattle.image.specs.Tables.{Bucket, tableOf, start}
+use Rattle.image.specs.Zero.{hasZero}
 use Rattle.image.specs.steps.Contracts.{offsetAt, hidden}
-use Rattle.image.proofs.Buckets.{firstEmpty-ext}
-use Rattle.canonical.specs.steps.HiddenBuckets.{countAtLeast, hide, hideFrom, putBucket, selfLinks, BackArrayMatches}
-use Rattle.canonical.proofs.HiddenBuckets.{getD-hideFrom, putBucket-in}
-use Rattle.canonical.proofs.FilledTable.{first-below, order-inside}
-use Rattle.canonical.specs.steps.InPlace.{bucketAt, bucketsInPlace, wordsAt}
-use Rattle.canonical.specs.steps.Checks.{bucketTaken, inItsBucket, nameOk, notBefore, entryOk, entriesOk, selfLinksIn, linksCounted}
-use Rattle.canonical.proofs.Concatenation.{getD-bucketsInPlace, length-bucketsInPlace, getD-wordsAt}
+use Rattle.image.proofs.Bools.{and-first, and-second, and-both}
+use Rattle.image.proofs.AllOfList.{All}
+use Rattle.serialize.proofs.EntryAdded.{firstEmpty-below}
+use Rattle.canonical.specs.steps.HiddenBuckets.{putBucket, Stands}
+use Rattle.canonical.specs.steps.InPlace.{slotsAt}
+use Rattle.canonical.specs.Canonical.{modeIn}
+use Rattle.canonical.specs.steps.Checks.{inItsBucket, entryOk, entriesOk, notBefore, entriesTo, placedFrom, rowsOk, countsMatch, twoWay, entriesValid}
+use Rattle.canonical.specs.steps.Checks.{linksCounted, bodyOk}
+use Rattle.canonical.proofs.TableChecks.{and3-facts}
 
--- ---- an entry in its table
-
-hide-at : (a : ℕ) (b : Bucket) → hide a b .at ≡ hidden a (b .at)
-hide-at a b = same-offset (ltb (b .at) a)
-  where
-    same-offset : (t : Bool) → cond t b empty .at ≡ cond t (b .at) 0
-    same-offset true = refl
-    same-offset false = refl
+-- ---- an entry in its table, as it is read
 
 module _ (img : List ℕ) (b : Bucket) where
-  -- its table, as it is read
-  o : ℕ
+  abbrev o : ℕ
   o = tableAt img (tableOf (b .hash))
 
-  n : ℕ
+  abbrev n : ℕ
   n = bucketNumber img (tableOf (b .hash))
 
-  T : List Bucket
-  T = bucketsInPlace img (tableAt img (tableOf (b .hash))) (bucketNumber img (tableOf (b .hash)))
+  abbrev taken : ℕ
+  taken = putBucket n (slotsAt img o) b
 
-  module _ (some : 0 < n) where
-    place-below : putBucket n T b < n
-    place-below = first-below (atOf (hideFrom (b .at) T)) (probeSequence n n (start (b .hash) n)) n some (order-inside (b .hash) n some)
-
-    taken-is : bucketTaken img (b .hash) (b .at) ≡ o + 8 * putBucket n T b
-    unfolding bucketTaken o n T
-    taken-is =
-        ap (λ (k : ℕ). o + 8 * k)
-        (sym (firstEmpty-ext (atOf (hideFrom (b .at) T)) (λ (k : ℕ). hidden (b .at) (offsetAt img o k)) n one n (start (b .hash) n)
-        (mod-lt (b .hash / 256) some)))
-      where
-        one : (k : ℕ) → k < n → atOf (hideFrom (b .at) T) k ≡ hidden (b .at) (offsetAt img o k)
-        one k h =
-            ap (λ (x : Bucket). x .at) (getD-hideFrom (b .at) T k ∙ ap (hide (b .at)) (getD-bucketsInPlace img o n k h))
-            ∙ hide-at (b .at) (bucketAt img (o + 8 * k))
-
-    read : getD T (putBucket n T b) empty ≡ bucketAt img (bucketTaken img (b .hash) (b .at))
-    unfolding T o n
-    read = getD-bucketsInPlace img o n (putBucket n T b) place-below ∙ ap (bucketAt img) (sym taken-is)
-
-  pub bucket-facts : inItsBucket img (b .hash) (b .at) ≡ true
-      → getD (bucketsInPlace img (tableAt img (tableOf (b .hash))) (bucketNumber img (tableOf (b .hash))))
-      (putBucket (bucketNumber img (tableOf (b .hash))) (bucketsInPlace img (tableAt img (tableOf (b .hash))) (bucketNumber img (tableOf (b .hash)))) b)
-      empty ≡ b
-  unfolding inItsBucket T o n
+  pub bucket-facts : inItsBucket img (b .hash) (b .at) ≡ true → Stands n (slotsAt img o) b
+  unfolding inItsBucket
   bucket-facts h =
-      let s = bucketTaken img (b .hash) (b .at) in
-      let p = not (eqb n 0) in
-      let q = eqb (word img s) (b .hash) in
-      let r = eqb (word img (s + 4)) (b .at) in
-      let pq = and-first (p && q) r h in
-      read (positive (and-first p q pq))
-      ∙ two (eqb-true (word img s) (b .hash) (and-second p q pq)) (eqb-true (word img (s + 4)) (b .at) (and-second (p && q) r h))
-    where
-      positive : not (eqb n 0) ≡ true → 0 < n
-      positive t =
-          let z = eqb-false n 0 (not-true (eqb n 0) t) in
-          elim (ℕ-discrete n 0) [
-            | yes e ↦ absurd (z e)
-            | no d ↦ omega arith
-          ]
+      let (some, hash, at) = and3-facts (not (eqb n 0)) (eqb (word img (o + 8 * taken)) (b .hash)) _ h in
+      let hash-is = eqb-true (word img (o + 8 * taken)) (b .hash) hash in
+      let at-is = eqb-true (word img (o + 8 * taken + 4)) (b .at) at in
+      let nonzero = eqb-false n 0 (not-true (eqb n 0) some) in
+      record {
+        inside =
+            firstEmpty-below (λ (k : ℕ). hidden (b .at) (offsetAt img o k)) n n (start (b .hash) n) (mod-lt (b .hash / 256) (omega arith));
+        holds = λ i. record { hash = hash-is i; at = at-is i };
+      }
 
-      two : word img (bucketTaken img (b .hash) (b .at)) ≡ b .hash → word img (bucketTaken img (b .hash) (b .at) + 4) ≡ b .at
-          → bucketAt img (bucketTaken img (b .hash) (b .at)) ≡ b
-      two e f = λ i. record { hash = e i; at = f i }
+  pub bucket-checked : Stands n (slotsAt img o) b → inItsBucket img (b .hash) (b .at) ≡ true
+  unfolding inItsBucket
+  bucket-checked s =
+      let hash-is = ap (λ (x : Bucket). x .hash) (s .holds) in
+      let at-is = ap (λ (x : Bucket). x .at) (s .holds) in
+      rw (
+        ne-eqb n 0 (λ z. omega (arith, s .inside)),
+        eq-eqb (word img (o + 8 * taken)) (b .hash) hash-is,
+        eq-eqb (word img (o + 8 * taken + 4)) (b .at) at-is,
+      )
 
-  pub bucket-checked : 0 < b .at
-      → getD (bucketsInPlace img (tableAt img (tableOf (b .hash))) (bucketNumber img (tableOf (b .hash))))
-      (putBucket (bucketNumber img (tableOf (b .hash))) (bucketsInPlace img (tableAt img (tableOf (b .hash))) (bucketNumber img (tableOf (b .hash)))) b)
-      empty ≡ b
-      → inItsBucket img (b .hash) (b .at) ≡ true
-  unfolding inItsBucket T o n
-  bucket-checked pos e =
-      let s = bucketTaken img (b .hash) (b .at) in
-      let l = putBucket-in n T b pos e in
-      let some : 0 < n = omega (arith, length-bucketsInPlace img o n) in
-      let f = sym (read some) ∙ e in
-      let p = not (eqb n 0) in
-      let q = eqb (word img s) (b .hash) in
-      let r = eqb (word img (s + 4)) (b .at) in
-      and-both (p && q) r (and-both p q (rw (ne-eqb n 0 (λ z. omega arith))) (eq-eqb (word img s) (b .hash) (ap (λ (x : Bucket). x .hash) f)))
-      (eq-eqb (word img (s + 4)) (b .at) (ap (λ (x : Bucket). x .at) f))
+-- an entry's name has no zero byte; an entry is in its bucket
+abbrev pub Free : Placed → Type 0
+Free p = not (hasZero (p .entry .name)) ≡ true
+
+abbrev pub InBucket : List ℕ → Placed → Type 0
+InBucket img p = inItsBucket img (hashOf (p .entry .name)) (p .at) ≡ true
 
 -- ---- all entries
 
@@ -114,15 +76,14 @@ module _ (img : List ℕ) (two : Bool) (o : ℕ) where
   pub entries-facts : (ps : List Placed) → entriesOk img two o ps ≡ true → All (λ (p : Placed). entryOk img two o p ≡ true) ps
   unfolding entriesOk
   entries-facts [] h = tt
-  entries-facts (p ∷ ps) h =
-      (and-first (entryOk img two o p) (entriesOk img two o ps) h, entries-facts ps (and-second (entryOk img two o p) (entriesOk img two o ps) h))
+  entries-facts (p ∷ ps) h = (and-first (entryOk img two o p) _ h, entries-facts ps (and-second (entryOk img two o p) _ h))
 
   pub entries-checked : (ps : List Placed) → All (λ (p : Placed). entryOk img two o p ≡ true) ps → entriesOk img two o ps ≡ true
   unfolding entriesOk
   entries-checked [] a = refl
-  entries-checked (p ∷ ps) a = and-both (entryOk img two o p) (entriesOk img two o ps) (a .0) (entries-checked ps (a .1))
+  entries-checked (p ∷ ps) a = and-both (entryOk img two o p) _ (a .0) (entries-checked ps (a .1))
 
--- from all entries to those of a table, and back
+-- from all entries to those of a table
 pub to-table : (P : Placed → Type 0) (t : ℕ) (ps : List Placed) → All P ps → All (λ (p : Placed). P p × (tableOf (hashOf (p .entry .name)) ≡ t)) (ofTable t ps)
 unfolding ofTable filter
 to-table P t [] a = tt
@@ -133,67 +94,43 @@ to-table P t (p ∷ ps) a = with-first (inTable t p) refl (to-table P t ps (a .1
     with-first true e rest = ((a .0, eqb-true (tableOf (hashOf (p .entry .name))) t e), rest)
     with-first false e rest = rest
 
-pub from-tables : (Q : ℕ → Placed → Type 0) (ps : List Placed) → ((t : ℕ) → t < 256 → All (Q t) (ofTable t ps))
-    → All (λ (p : Placed). Q (tableOf (hashOf (p .entry .name))) p) ps
-unfolding ofTable filter
-from-tables Q [] each = tt
-from-tables Q (p ∷ ps) each =
-    (own (inTable h p) (eq-eqb h h refl) (each h (mod-lt (hashOf (p .entry .name)) (omega arith))), from-tables Q ps (λ t l. rest t (inTable t p) (each t l)))
-  where
-    h : ℕ
-    h = tableOf (hashOf (p .entry .name))
-
-    own : (b : Bool) → b ≡ true → All (Q h) (cond b (p ∷ filter (inTable h) ps) (filter (inTable h) ps)) → Q h p
-    own true e a = a .0
-    own false e a = absurd (false-not-true e)
-
-    rest : (t : ℕ) (b : Bool) → All (Q t) (cond b (p ∷ filter (inTable t) ps) (filter (inTable t) ps)) → All (Q t) (filter (inTable t) ps)
-    rest t true a = a .1
-    rest t false a = a
-
-pub all-unimage : {A B : Type 0} (Q : B → Type 0) (f : A → B) (xs : List A) → All Q (map f xs) → All (λ (x : A). Q (f x)) xs
-all-unimage Q f [] a = tt
-all-unimage Q f (x ∷ xs) a = (a .0, all-unimage Q f xs (a .1))
-
 -- ---- links
 
-module _ (img : List ℕ) (o n : ℕ) where
-  abbrev Id : Placed → Type 0
-  Id p = p .entry .id < n
+pub ahead-facts : (at w : ℕ) → notBefore true at w ≡ true → at ≤ w
+ahead-facts at w h = ltb-false w at (not-true (ltb w at) h)
 
-  selfLinks-same : (ps : List Placed) → All Id ps → selfLinks (wordsAt img o n) ps ≡ selfLinksIn img o ps
-  unfolding selfLinks selfLinksIn
-  selfLinks-same [] ids = refl
-  selfLinks-same (p ∷ ps) ids =
-      ap₂ (λ (w : ℕ) (r : ℕ). cond (eqb w (p .at)) 1 0 + r) (getD-wordsAt img o n (p .entry .id) (ids .0)) (selfLinks-same ps (ids .1))
+pub ahead-checked : (at w : ℕ) → at ≤ w → notBefore true at w ≡ true
+ahead-checked at w h = rw (le-ltb w at h)
 
-  abbrev Ahead : Placed → Type 0
-  Ahead p = p .at ≤ getD (wordsAt img o n) (p .entry .id) 0
+-- ---- all behind the head
 
-  ahead-facts : (ps : List Placed) → All Id ps → All (λ (p : Placed). entryOk img true o p ≡ true) ps → All Ahead ps
-  ahead-facts ps ids a = all-map one ps (all-both Id (λ (p : Placed). entryOk img true o p ≡ true) ps ids a)
-    where
-      one : (p : Placed) → Id p × (entryOk img true o p ≡ true) → Ahead p
-      one p (i, h) =
-          let w = word img (o + 4 * p .entry .id) in
-          let e = getD-wordsAt img o n (p .entry .id) i in
-          let l = ltb-false w (p .at) (not-true (ltb w (p .at)) (and-first (notBefore true (p .at) w) (nameOk img (p .at) (p .entry .name)) h)) in
-          omega arith
+pub record Body (img : List ℕ) (n end back : ℕ) : Type 0 where
+  pub rows : rowsOk img end ≡ true
+  pub wholes : whole n (between img headSize end) ≡ true
+  pub entries : entriesOk img (twoWay img) (end + 16 * n) (placedFrom img end n headSize) ≡ true
+  pub counts : countsMatch img (tallied (replicate 256 0) (entriesTo img end n)) ≡ true
+  pub backs : back ≡ backIn (modeIn img) (backSize (entriesTo img end n))
+  pub links : cond (twoWay img) (linksCounted img (end + 16 * n) back (placedFrom img end n headSize)) true ≡ true
 
-  pub ahead-checked : (ps : List Placed) → All Id ps → All Ahead ps → All (λ (p : Placed). notBefore true (p .at) (word img (o + 4 * p .entry .id)) ≡ true) ps
-  ahead-checked ps ids a = all-map one ps (all-both Id Ahead ps ids a)
-    where
-      one : (p : Placed) → Id p × Ahead p → notBefore true (p .at) (word img (o + 4 * p .entry .id)) ≡ true
-      one p (i, l) =
-          let e = getD-wordsAt img o n (p .entry .id) i in
-          rw (le-ltb (word img (o + 4 * p .entry .id)) (p .at) (omega arith))
+pub body-facts : (img : List ℕ) (n end back : ℕ) → bodyOk img n end back ≡ true → Body img n end back
+unfolding bodyOk
+body-facts img n end back h =
+    let valid = entriesValid img end n (twoWay img) (end + 16 * n) in
+    let counted = countsMatch img (tallied (replicate 256 0) (entriesTo img end n)) in
+    let backs : ℕ = backIn (modeIn img) (backSize (entriesTo img end n)) in
+    let (first, back-is, links) = and3-facts (rowsOk img end && valid && counted) (eqb back backs) _ h in
+    let (rows, entries, counts) = and3-facts (rowsOk img end) valid counted first in
+    let wholes = whole n (between img headSize end) in
+    record {
+      rows = rows;
+      wholes = and-first wholes _ entries;
+      entries = and-second wholes _ entries;
+      counts = counts;
+      backs = eqb-true back backs back-is;
+      links = links;
+    }
 
-  pub links-facts : (ps : List Placed) → All Id ps → All (λ (p : Placed). entryOk img true o p ≡ true) ps → linksCounted img o n ps ≡ true
-      → BackArrayMatches (wordsAt img o n) ps
-  links-facts ps ids a h = record {
-    ahead = ahead-facts ps ids a;
-    used = eqb-true (countAtLeast 1 (wordsAt img o n)) (selfLinksIn img o ps) h ∙ sym (selfLinks-same ps ids);
-  }
-
-  pub links-checked : (ps : List Placed) → All Id ps → BackArrayMatches (wordsAt img o n) ps → linksCounted img o n ps ≡ true
-  links-checked ps ids k = eq-eqb (countAtLeast 1 (wordsAt img o n)) (selfLinksIn img o ps) (k .used ∙ selfLinks-same ps ids)
+pub body-checked : (img : List ℕ) (n end back : ℕ) → Body img n end back → bodyOk img n end back ≡ true
+unfolding bodyOk
+body-checked img n end back t =
+    rw (t .rows, t .wholes, t .entries, t .counts, eq-eqb back (backIn (modeIn img) (backSize (entriesTo img end n))) (t .backs)) (t .links)

@@ -2,7 +2,7 @@
 use Prim.Native.Nat.{ℕ, suc, _+_, _*_, _-_, _≤_, _<_, max}
 use native.Mathlib.Omega.{arith}
 use mathlib.Core.Path.{_≡_, refl, sym, ap, ap₂, _∙_}
-use mathlib.Core.Bool.{Bool, true, false, cond, _&&_}
+use mathlib.Core.Bool.{Bool, true, false, cond, _&&_, and-true, and-false}
 use mathlib.Core.List.{List, _∷_}
 use lib.ListN.{length, drop, length-take, length-drop}
 use lib.Dec.{eqb}
@@ -15,20 +15,19 @@ use Rattle.image.specs.Tally.{raisedCounts}
 use Rattle.image.proofs.Between.{Front, front, EntryRoom, entry-room}
 use Rattle.image.proofs.Bools.{false-not-true}
 use Rattle.image.proofs.EntryWalk.{Rest, first-id, first-name, entries-rest, walk-start, walk-step, walk-broken, walk-end}
-use Rattle.canonical.specs.steps.Checks.{entryName, nameOk, notBefore, entriesOk, selfLinksIn, placedFrom}
+use Rattle.canonical.specs.steps.Checks.{entryName, nameOk, notBefore, entriesOk, entriesValid, placedFrom}
+use Rattle.canonical.specs.steps.HiddenBuckets.{inCells, selfLinks}
+use Rattle.canonical.specs.steps.InPlace.{linkAt}
 use Rattle.canonical.specs.steps.Contracts.{OneIf, CheckEntriesPre, EntriesFound}
 
 -- what the entries from `at` on add to what was found before them is the whole
 pub record Entering (img : List ℕ) (end entries : ℕ) (two : Bool) (o : ℕ) (counts₀ : List ℕ) (at left back linked : ℕ) (counts : List ℕ) : Type 0 where
   pub rest : Rest img end entries counts₀ at left back counts
   pub valid-same : entriesOk img two o (placedFrom img end left at) ≡ entriesOk img two o (placedFrom img end entries 2072)
-  pub linked-same : linked + selfLinksIn img o (placedFrom img end left at) ≡ selfLinksIn img o (placedFrom img end entries 2072)
+  pub linked-same : linked + selfLinks (linkAt img o) (placedFrom img end left at) ≡ selfLinks (linkAt img o) (placedFrom img end entries 2072)
   pub few : linked + left ≤ entries
 
-abbrev Valid : List ℕ → ℕ → ℕ → Bool → ℕ → Bool
-Valid img end entries two o = whole entries (between img 2072 end) && entriesOk img two o (placedFrom img end entries 2072)
-
-not-valid : {img : List ℕ} {end entries : ℕ} {two : Bool} {o : ℕ} {counts₀ counts : List ℕ} → false ≡ Valid img end entries two o
+not-valid : {img : List ℕ} {end entries : ℕ} {two : Bool} {o : ℕ} {counts₀ counts : List ℕ} → false ≡ entriesValid img end entries two o
     → EntriesFound img end entries two o counts₀ counts (record { valid = false; back = 0; linked = 0 })
 not-valid e = record {
   valid = e;
@@ -107,25 +106,22 @@ module _ {img : List ℕ} {end entries : ℕ} {two : Bool} {o : ℕ} {counts₀ 
     pub entering-wrong : (p && q) ≡ false → {counts₁ : List ℕ}
         → EntriesFound img end entries two o counts₀ counts₁ (record { valid = false; back = 0; linked = 0 })
     entering-wrong z =
+        let wholes = whole entries (between img 2072 end) in
         not-valid
-        (no-second (whole entries (between img 2072 end)) (entriesOk img two o (placedFrom img end entries 2072))
-        (sym (entries-step ∙ ap (λ (b : Bool). b && entriesOk img two o later) z) ∙ e .valid-same))
-      where
-        no-second : (a b : Bool) → false ≡ b → false ≡ (a && b)
-        no-second true b h = h
-        no-second false b h = refl
+        (sym (and-false wholes)
+        ∙ ap (λ (b : Bool). wholes && b) (sym (entries-step ∙ ap (λ (b : Bool). b && entriesOk img two o later) z) ∙ e .valid-same))
 
     pub entering-next : (p && q) ≡ true → (b : ℕ) (counts₁ : List ℕ) → n < 4294967296 → id < 4294967296 → OneIf w at b → counts₁ ≡ raisedCounts counts h
         → Entering img end entries two o counts₀ (at + (8 + n)) (left - 1) (max back (id + 1)) (linked + b) counts₁
-    unfolding later selfLinksIn
+    unfolding later inCells
     entering-next y b counts₁ small idsmall one ec = record {
       rest =
           walk-step img end entries counts₀ at left back counts k (e .rest) some n h id (entryName img at n) counts₁ there small idsmall refl (r .hash-is)
           (r .id-is) ec;
       valid-same = sym (entries-step ∙ ap (λ (b : Bool). b && entriesOk img two o later) y) ∙ e .valid-same;
       linked-same =
-          let t : selfLinksIn img o (placedFrom img end left at) ≡ cond (eqb w at) 1 0 + selfLinksIn img o later =
-          ap (selfLinksIn img o) step ∙ ap (λ (v : ℕ). cond (eqb v at) 1 0 + selfLinksIn img o later) link-is in
+          let t : selfLinks (linkAt img o) (placedFrom img end left at) ≡ cond (eqb w at) 1 0 + selfLinks (linkAt img o) later =
+          ap (selfLinks (linkAt img o)) step ∙ ap (λ (v : ℕ). cond (eqb v at) 1 0 + selfLinks (linkAt img o) later) link-is in
           omega (arith, one .is, e .linked-same);
       few = omega (arith, one .most, e .few);
     }
@@ -133,18 +129,14 @@ module _ {img : List ℕ} {end entries : ℕ} {two : Bool} {o : ℕ} {counts₀ 
 pub entering-end : {img : List ℕ} {end entries : ℕ} {two : Bool} {o : ℕ} {counts₀ : List ℕ} {at back linked : ℕ} {counts : List ℕ}
     → Entering img end entries two o counts₀ at 0 back linked counts → end ≤ length img
     → EntriesFound img end entries two o counts₀ counts (record { valid = eqb at end; back = back; linked = linked })
-unfolding entriesOk selfLinksIn placed entriesIn
+unfolding entriesOk inCells placed entriesIn
 entering-end {img} {end} {entries} {two} {o} {counts₀} {at} {back} {linked} {counts} e k =
     let w = walk-end img end entries counts₀ at back counts k (e .rest) in
     let all : true ≡ entriesOk img two o (placedFrom img end entries 2072) = e .valid-same in
-    let links : linked + 0 ≡ selfLinksIn img o (placedFrom img end entries 2072) = e .linked-same in
+    let links : linked + 0 ≡ selfLinks (linkAt img o) (placedFrom img end entries 2072) = e .linked-same in
     record {
-      valid = w .0 ∙ and-all (whole entries (between img 2072 end)) ∙ ap (λ (b : Bool). whole entries (between img 2072 end) && b) all;
+      valid = w .0 ∙ sym (and-true (whole entries (between img 2072 end))) ∙ ap (λ (b : Bool). whole entries (between img 2072 end) && b) all;
       back = λ y. w .1;
       linked = λ y. omega arith;
       by-table = λ y. w .2;
     }
-  where
-    and-all : (a : Bool) → a ≡ (a && true)
-    and-all true = refl
-    and-all false = refl

@@ -1,28 +1,56 @@
--- A filled table is right: each entry goes into an empty bucket, and stays there. Assumes nothing.
+-- A table matches its entries exactly where it is the filled one: each entry goes into an empty bucket, and stays there. Assumes nothing.
 use Prim.Native.Nat.{ℕ, zero, suc, _+_, _/_, _≤_, _<_}
 use native.Mathlib.Omega.{arith}
 use native.Mathlib.Nat.{mod-lt}
 use native.Mathlib.Decide.{decLt, ℕ-discrete}
 use mathlib.Core.Path.{_≡_, refl, sym, ap, _∙_}
 use mathlib.Core.Bool.{Bool, true, false, cond}
-use mathlib.Core.List.{List, [], _∷_}
+use mathlib.Core.List.{List, [], _∷_, map}
 use lib.ListN.{length, getD, set, replicate, length-replicate}
 use lib.Seq.{getD-set-same, getD-set-other}
-use lib.Dec.{eqb}
-use borrow.Author.Tests.{eqb-true, eqb-false}
-use Rattle.image.specs.Tables.{Bucket, empty, atOf, start, probeSequence, firstEmpty, insert, insertAll, filled}
-use Rattle.image.proofs.Buckets.{getD-empties}
-use Rattle.image.proofs.AllOfList.{All}
+use lib.Dec.{eqb, ltb}
+use borrow.Author.Tests.{lt-ltb, le-ltb, eqb-true, eqb-false}
+use Rattle.image.specs.Tables.{Bucket, empty, atOf, start, probeSequence, firstEmpty, insert, insertAll, filled, Filled}
+use Rattle.image.specs.steps.Contracts.{hidden}
+use Rattle.image.proofs.AllOfList.{All, all-map}
+use Rattle.image.proofs.Buckets.{getD-empties, length-probeSequence, firstEmpty-ext}
 use Rattle.image.proofs.Sizes.{length-insert}
-use Rattle.image.proofs.Buckets.{length-probeSequence}
 use Rattle.lookup_laws.proofs.ProbeSequence.{probeSequence-at, place-of}
-use Rattle.canonical.specs.steps.HiddenBuckets.{countAtLeast, Rising, bucketOffsets, hide, hideFrom, putBucket, TableMatches}
-use Rattle.canonical.proofs.CountAtLeast.{countAtLeast-none, countAtLeast-set, countAtLeast-room, rising-less}
-use Rattle.canonical.proofs.HiddenBuckets.{hide-shows, hide-hides, hide-empty, getD-hideFrom, length-hideFrom, getD-bucketOffsets}
-use Rattle.canonical.proofs.HiddenBuckets.{length-bucketOffsets, hideFrom-is}
+use Rattle.serialize.proofs.EntryAdded.{firstEmpty-below}
+use Rattle.canonical.specs.steps.HiddenBuckets.{bit, usedTo, Rising, putBucket, Stands, TableMatches}
+use Rattle.canonical.proofs.Sums.{bit-yes, bit-no, bit-mono, sum-zero, sum-same, sum-more, used-room}
+use Rattle.canonical.proofs.Cells as cells
 
--- ---- the first empty bucket of a search
+-- the offsets in buckets
+abbrev pub bucketOffsets : List Bucket → List ℕ
+bucketOffsets bs = map (λ (b : Bucket). b .at) bs
 
+-- a bucket as it was before the put at a: empty if its offset is a or more
+abbrev hide : ℕ → Bucket → Bucket
+hide a b = cond (ltb (b .at) a) b empty
+
+hide-shows : (a : ℕ) (b : Bucket) → b .at < a → hide a b ≡ b
+hide-shows a b h = rw (lt-ltb (b .at) a h)
+
+hide-hides : (a : ℕ) (b : Bucket) → a ≤ b .at → hide a b ≡ empty
+hide-hides a b h = rw (le-ltb (b .at) a h)
+
+hide-at : (a : ℕ) (b : Bucket) → hide a b .at ≡ hidden a (b .at)
+hide-at a b = same-offset (ltb (b .at) a)
+  where
+    same-offset : (t : Bool) → cond t b empty .at ≡ cond t (b .at) 0
+    same-offset true = refl
+    same-offset false = refl
+
+-- a bucket whose offset is not from a to c is hidden from both or from none
+hide-same : (a c : ℕ) (b : Bucket) → a ≤ c → (a ≤ b .at → c ≤ b .at) → hide a b ≡ hide c b
+hide-same a c b le far =
+    elim (decLt (b .at) a) [
+      | yes h ↦ hide-shows a b h ∙ sym (hide-shows c b (omega arith))
+      | no h ↦ let k = far (omega arith) in hide-hides a b (omega arith) ∙ sym (hide-hides c b k)
+    ]
+
+-- a search that meets an empty bucket finds one
 first-found : (at : ℕ → ℕ) (ks : List ℕ) (i : ℕ) → i < length ks → at (getD ks i 0) ≡ 0 → at (firstEmpty at ks) ≡ 0
 unfolding firstEmpty
 first-found at [] i h z = absurd (omega arith)
@@ -34,207 +62,240 @@ first-found at (k ∷ ks) i h z = found-from (eqb (at k) 0) refl i h z (λ j l y
     found-from false e zero h z rest = absurd (eqb-false (at k) 0 e z)
     found-from false e (suc i) h z rest = rest i (omega arith) z
 
-pub first-below : (at : ℕ → ℕ) (ks : List ℕ) (n : ℕ) → 0 < n → ((i : ℕ) → i < length ks → getD ks i 0 < n) → firstEmpty at ks < n
-unfolding firstEmpty
-first-below at [] n p h = p
-first-below at (k ∷ ks) n p h = either-below (eqb (at k) 0) (first-below at ks n p (λ i l. h (suc i) (omega arith)))
-  where
-    either-below : (t : Bool) → firstEmpty at ks < n → cond t k (firstEmpty at ks) < n
-    either-below true rest = h 0 (omega arith)
-    either-below false rest = rest
+-- a table of n buckets that took m entries, all before offset a
+record Inserted (n : ℕ) (table : List Bucket) (m a : ℕ) : Type 0 where
+  sized : length table ≡ n
+  zeros : (k : ℕ) → atOf table k ≡ 0 → getD table k empty ≡ empty
+  used : usedTo (atOf table) n ≡ m
+  below : (k : ℕ) → atOf table k < a
 
--- the buckets of a probe sequence
-pub order-inside : (h n : ℕ) → 0 < n → (i : ℕ) → i < length (probeSequence n n (start h n)) → getD (probeSequence n n (start h n)) i 0 < n
-order-inside h n some i l =
-    let k : i < n = rw (length-probeSequence n n (start h n)) at l in
-    rw (probeSequence-at n n (start h n) i (mod-lt (h / 256) some) k) (mod-lt (start h n + i) some)
+-- the finished table, where F took m entries before offset a and bs are those from a on
+record Holds (n : ℕ) (slots : ℕ → Bucket) (F bs : List Bucket) (m a : ℕ) : Type 0 where
+  was : (k : ℕ) → k < n → getD F k empty ≡ hide a (slots k)
+  zeros : (k : ℕ) → k < n → slots k .at ≡ 0 → slots k ≡ empty
+  used : usedTo (λ (k : ℕ). slots k .at) n ≡ m + length bs
+  stand : All (Stands n slots) bs
 
-bucketOffsets-set : (table : List Bucket) (k : ℕ) (b : Bucket) → bucketOffsets (set table k b) ≡ set (bucketOffsets table) k (b .at)
-bucketOffsets-set [] k b = refl
-bucketOffsets-set (c ∷ table) zero b = refl
-bucketOffsets-set (c ∷ table) (suc k) b = ap (λ (l : List ℕ). c .at ∷ l) (bucketOffsets-set table k b)
+module _ (n : ℕ) (slots : ℕ → Bucket) where
+  abbrev put : Bucket → ℕ
+  put b = putBucket n slots b
 
--- ---- one entry
+  abbrev offset : ℕ → ℕ
+  offset k = slots k .at
 
--- what holds of a table that took m entries, all before offset a
-pub record Inserted (n : ℕ) (table : List Bucket) (m a : ℕ) : Type 0 where
-  pub sized : length table ≡ n
-  pub zeros : (k : ℕ) → atOf table k ≡ 0 → getD table k empty ≡ empty
-  pub used : countAtLeast 1 (bucketOffsets table) ≡ m
-  pub below : (k : ℕ) → atOf table k < a
+  abbrev at : Bucket → ℕ
+  at b = b .at
 
-module _ (n : ℕ) (table : List Bucket) (m a : ℕ) (b : Bucket) (t : Inserted n table m a) (room : m < n) (pos : 0 < a) (le : a ≤ b .at) where
-  slot : ℕ
-  slot = firstEmpty (atOf table) (probeSequence n n (start (b .hash) n))
+  start-below : (h : ℕ) → 0 < n → start h n < n
+  start-below h some = mod-lt (h / 256) some
 
-  start-below : start (b .hash) n < n
-  start-below = mod-lt (b .hash / 256) (omega arith)
+  -- where the table F is the finished one before the put of x, that put takes x's bucket
+  takes : (F : List Bucket) (x : Bucket) → 0 < n → ((k : ℕ) → k < n → getD F k empty ≡ hide (x .at) (slots k))
+      → firstEmpty (atOf F) (probeSequence n n (start (x .hash) n)) ≡ put x
+  takes F x some is =
+      firstEmpty-ext (atOf F) (λ (k : ℕ). hidden (x .at) (offset k)) n (λ k h. ap at (is k h) ∙ hide-at (x .at) (slots k)) n (start (x .hash) n)
+      (start-below (x .hash) some)
 
-  slot-in : slot < n
-  unfolding slot
-  slot-in = first-below (atOf table) (probeSequence n n (start (b .hash) n)) n (omega arith) (order-inside (b .hash) n (omega arith))
+  -- ---- a matching table is the filled one
 
-  slot-empty : atOf table slot ≡ 0
-  unfolding slot
-  slot-empty =
-      let (j, h, z) = countAtLeast-room (bucketOffsets table) (omega (arith, t .used, t .sized, length-bucketOffsets table)) in
-      let k : j < n = omega (arith, length-bucketOffsets table, t .sized) in
-      let (i, l, e) = place-of n (start (b .hash) n) j start-below k in
-      first-found (atOf table) (probeSequence n n (start (b .hash) n)) i (rw (length-probeSequence n n (start (b .hash) n)) l)
-      (ap (atOf table) (probeSequence-at n n (start (b .hash) n) i start-below l ∙ e) ∙ sym (getD-bucketOffsets table j) ∙ z)
+  abbrev own : ℕ → List Bucket → ℕ
+  own k bs = cells.own put at offset k bs
 
-  there : slot < length table
-  there = rw (t .sized) slot-in
+  own-most : (k a : ℕ) (bs : List Bucket) → Rising a (bucketOffsets bs) → own k bs ≤ bit a (offset k)
+  own-most k a bs r = cells.own-most put at offset k a bs r
 
-  got : getD (insert n table b) slot empty ≡ b
-  unfolding insert slot
-  got = getD-set-same table slot b empty there
-
-  kept : (k : ℕ) → (k ≡ slot → ⊥) → getD (insert n table b) k empty ≡ getD table k empty
-  unfolding insert slot
-  kept k d = getD-set-other table slot k b empty d
-
-  bucketOffsets-insert : bucketOffsets (insert n table b) ≡ set (bucketOffsets table) slot (b .at)
-  unfolding insert slot
-  bucketOffsets-insert = bucketOffsets-set table slot b
-
-  slot-of : (l : List Bucket) → l ≡ table → firstEmpty (atOf l) (probeSequence n n (start (b .hash) n)) ≡ slot
-  unfolding slot
-  slot-of l e = ap (λ (l : List Bucket). firstEmpty (atOf l) (probeSequence n n (start (b .hash) n))) e
-
-  pub hidden : (c : ℕ) → c ≤ b .at → hideFrom c (insert n table b) ≡ hideFrom c table
-  hidden c h =
-      hideFrom-is c (insert n table b) (hideFrom c table) (length-hideFrom c table ∙ sym (length-insert n table b))
-      (λ k l. each k ∙ sym (getD-hideFrom c table k))
+  filled-from : (a : ℕ) (F bs : List Bucket) → length F ≡ n → ((k : ℕ) → k < n → getD F k empty ≡ hide a (slots k)) → Rising a (bucketOffsets bs)
+      → All (Stands n slots) bs → ((k : ℕ) → k < n → own k bs ≡ bit a (offset k)) → (k : ℕ) → k < n → slots k ≡ getD (insertAll n F bs) k empty
+  unfolding insertAll insert
+  filled-from a F [] sized is r s o k h = sym (is k h ∙ hide-shows a (slots k) below)
     where
-      each : (k : ℕ) → hide c (getD (insert n table b) k empty) ≡ hide c (getD table k empty)
-      each k =
-          elim (ℕ-discrete k slot) [
-            | yes e ↦
-                let z = t .zeros slot slot-empty in
-                rw e (ap (hide c) got ∙ hide-hides c b h ∙ sym (ap (hide c) z ∙ hide-empty c))
-            | no d ↦ ap (hide c) (kept k d)
+      below : offset k < a
+      below =
+          elim (decLt (offset k) a) [
+            | yes l ↦ l
+            | no l ↦ absurd (omega (arith, o k h, cells.own-none put at offset k, bit-yes a (offset k) (omega arith)))
+          ]
+  filled-from a F (x ∷ bs) sized is r s o k h =
+      filled-from (suc (x .at)) (insert n F x) bs (length-insert n F x ∙ sized) next (r .1) (s .1) own-next k h
+    where
+      holds : offset (put x) ≡ x .at
+      holds = ap at (s .0 .holds)
+
+      -- none of the entries that are left is before x
+      first : (j : ℕ) → j < n → a ≤ offset j → x .at ≤ offset j
+      first j l le =
+          let self : x .at ≤ x .at = omega arith in
+          elim (decLt (offset j) (x .at)) [
+            | yes m ↦ absurd (omega (arith, o j l, own-most j (x .at) (x ∷ bs) (self, r .1), bit-yes a (offset j) le, bit-no (x .at) (offset j) m))
+            | no m ↦ omega arith
           ]
 
-  pub inserted-one : Inserted n (insert n table b) (suc m) (suc (b .at))
-  inserted-one = record {
-    sized = length-insert n table b ∙ t .sized;
-    zeros = zeros;
-    used = used;
-    below = below;
+      before : (j : ℕ) → j < n → getD F j empty ≡ hide (x .at) (slots j)
+      before j l = is j l ∙ hide-same a (x .at) (slots j) (r .0) (first j l)
+
+      other : (j : ℕ) → j < n → (j ≡ put x → ⊥) → own j bs ≡ bit a (offset j)
+      other j l d = sym (cells.own-other put at offset j x bs (λ e. d (sym e))) ∙ o j l
+
+      own-next : (j : ℕ) → j < n → own j bs ≡ bit (suc (x .at)) (offset j)
+      own-next j l =
+          let most = own-most j (suc (x .at)) bs (r .1) in
+          let le = r .0 in
+          elim (ℕ-discrete j (put x)) [
+            | yes e ↦ let f : offset j ≡ x .at = ap offset e ∙ holds in omega (arith, bit-no (suc (x .at)) (offset j) (omega arith))
+            | no d ↦ omega (arith, other j l d, bit-mono a (suc (x .at)) (offset j) (omega arith))
+          ]
+
+      next : (j : ℕ) → j < n → getD (insert n F x) j empty ≡ hide (suc (x .at)) (slots j)
+      next j l =
+          ap (λ (p : ℕ). getD (set F p x) j empty) (takes F x (omega arith) before)
+          ∙ elim (ℕ-discrete j (put x)) [
+            | yes e ↦
+                rw e
+                (getD-set-same F (put x) x empty (rw sized (s .0 .inside))
+                ∙ sym (ap (hide (suc (x .at))) (s .0 .holds) ∙ hide-shows (suc (x .at)) x (omega arith)))
+            | no d ↦ getD-set-other F (put x) j x empty d ∙ before j l ∙ hide-same (x .at) (suc (x .at)) (slots j) (omega arith) (later j l d)
+          ]
+        where
+          -- no other bucket has x's offset
+          later : (j : ℕ) → j < n → (j ≡ put x → ⊥) → x .at ≤ offset j → suc (x .at) ≤ offset j
+          later j l d le =
+              let low = r .0 in
+              elim (decLt (x .at) (offset j)) [
+                | yes m ↦ m
+                | no m ↦
+                    absurd (omega (arith, other j l d, own-next j l, bit-yes a (offset j) (omega arith), bit-no (suc (x .at)) (offset j) (omega arith)))
+              ]
+
+  pub matching-filled : (bs : List Bucket) → Rising 1 (bucketOffsets bs) → TableMatches n slots bs → Filled n slots bs
+  unfolding filled
+  matching-filled bs r m = record {
+    each = filled-from 1 (replicate n empty) bs (length-replicate n empty) (λ k h. getD-empties n k ∙ sym (hidden-all k h)) r (m .stand) owned;
   }
     where
-      at-got : atOf (insert n table b) slot ≡ b .at
-      at-got = ap (λ (x : Bucket). x .at) got
+      owned : (k : ℕ) → k < n → own k bs ≡ bit 1 (offset k)
+      owned =
+          cells.owned put at offset n bs r (all-map (λ b s. s .inside) bs (m .stand))
+          (m .used ∙ sym (cells.all-in-cells put at offset bs (all-map (λ b s. ap at (s .holds)) bs (m .stand))))
 
-      zeros : (k : ℕ) → atOf (insert n table b) k ≡ 0 → getD (insert n table b) k empty ≡ empty
-      zeros k z =
-          elim (ℕ-discrete k slot) [
-            | yes e ↦ let f : atOf (insert n table b) k ≡ b .at = ap (atOf (insert n table b)) e ∙ at-got in absurd (omega arith)
-            | no d ↦ kept k d ∙ t .zeros k (sym (ap (λ (x : Bucket). x .at) (kept k d)) ∙ z)
+      hidden-all : (k : ℕ) → k < n → hide 1 (slots k) ≡ empty
+      hidden-all k h =
+          elim (decLt (offset k) 1) [
+            | yes l ↦ hide-shows 1 (slots k) l ∙ m .zeros k h (omega arith)
+            | no l ↦ hide-hides 1 (slots k) (omega arith)
           ]
 
-      used : countAtLeast 1 (bucketOffsets (insert n table b)) ≡ suc m
+  -- ---- the filled table matches
+
+  inserted-none : Inserted n (replicate n empty) 0 1
+  inserted-none = record {
+    sized = length-replicate n empty;
+    zeros = λ k z. getD-empties n k;
+    used = sum-zero (λ (k : ℕ). bit 1 (atOf (replicate n empty) k)) n (λ k. ap (λ (b : Bucket). bit 1 (b .at)) (getD-empties n k));
+    below = λ k. let e = ap at (getD-empties n k) in omega arith;
+  }
+
+  module _ (F : List Bucket) (m a : ℕ) (x : Bucket) (t : Inserted n F m a) (room : m < n) (pos : 0 < a) (le : a ≤ x .at) where
+    slot : ℕ
+    slot = firstEmpty (atOf F) (probeSequence n n (start (x .hash) n))
+
+    slot-in : slot < n
+    unfolding slot
+    slot-in = firstEmpty-below (atOf F) n n (start (x .hash) n) (start-below (x .hash) (omega arith))
+
+    slot-empty : atOf F slot ≡ 0
+    unfolding slot
+    slot-empty =
+        let s = start (x .hash) n in
+        let below = start-below (x .hash) (omega arith) in
+        let (j, h, z) = used-room (atOf F) n (omega (arith, t .used)) in
+        let (i, l, e) = place-of n s j below h in
+        first-found (atOf F) (probeSequence n n s) i (rw (length-probeSequence n n s) l) (ap (atOf F) (probeSequence-at n n s i below l ∙ e) ∙ z)
+
+    got : getD (insert n F x) slot empty ≡ x
+    unfolding insert slot
+    got = getD-set-same F slot x empty (rw (t .sized) slot-in)
+
+    kept : (k : ℕ) → (k ≡ slot → ⊥) → getD (insert n F x) k empty ≡ getD F k empty
+    unfolding insert slot
+    kept k d = getD-set-other F slot k x empty d
+
+    inserted-one : Inserted n (insert n F x) (suc m) (suc (x .at))
+    inserted-one = record {
+      sized = length-insert n F x ∙ t .sized;
+      zeros = λ k z. elim (ℕ-discrete k slot) [
+        | yes e ↦ absurd (omega (arith, at-slot k e))
+        | no d ↦ kept k d ∙ t .zeros k (sym (ap at (kept k d)) ∙ z)
+      ];
       used =
-          ap (countAtLeast 1) bucketOffsets-insert
-          ∙ countAtLeast-set (bucketOffsets table) slot (b .at) (rw (length-bucketOffsets table) there) (getD-bucketOffsets table slot ∙ slot-empty)
-          (omega arith)
-          ∙ one (countAtLeast 1 (bucketOffsets table)) (t .used)
-        where
-          one : (x : ℕ) → x ≡ m → x + 1 ≡ suc m
-          one x e = omega arith
+          sum-more (λ (k : ℕ). bit 1 (atOf F k)) (λ (k : ℕ). bit 1 (atOf (insert n F x) k)) slot 1 n slot-in
+          (omega (arith, bit-yes 1 (atOf (insert n F x) slot) (omega (arith, at-slot slot refl)), bit-no 1 (atOf F slot) (omega (arith, slot-empty))))
+          (λ k d. ap (λ (b : Bucket). bit 1 (b .at)) (sym (kept k d)))
+          ∙ (let e : usedTo (atOf F) n + 1 ≡ suc m = omega (arith, t .used) in e);
+      below = λ k. elim (ℕ-discrete k slot) [
+        | yes e ↦ omega (arith, at-slot k e)
+        | no d ↦ omega (arith, ap at (kept k d), t .below k)
+      ];
+    }
+      where
+        at-slot : (k : ℕ) → k ≡ slot → atOf (insert n F x) k ≡ x .at
+        at-slot k e = ap (atOf (insert n F x)) e ∙ ap at got
 
-      below : (k : ℕ) → atOf (insert n table b) k < suc (b .at)
-      below k =
-          elim (ℕ-discrete k slot) [
-            | yes e ↦ let f : atOf (insert n table b) k ≡ b .at = ap (atOf (insert n table b)) e ∙ at-got in omega arith
-            | no d ↦ let f : atOf (insert n table b) k ≡ atOf table k = ap (λ (x : Bucket). x .at) (kept k d) in omega (arith, t .below k)
+    -- the finished table holds x in that bucket, and before the put of x it is F
+    module _ (is : (k : ℕ) → k < n → getD (insert n F x) k empty ≡ hide (suc (x .at)) (slots k)) where
+      stays : slots slot ≡ x
+      stays =
+          let e = sym (is slot slot-in) ∙ got in
+          elim (decLt (offset slot) (suc (x .at))) [
+            | yes h ↦ sym (hide-shows (suc (x .at)) (slots slot) h) ∙ e
+            | no h ↦ let z = ap at (sym (hide-hides (suc (x .at)) (slots slot) (omega arith)) ∙ e) in absurd (omega arith)
           ]
 
-  -- the entry in a later table in which no bucket below its offset or at it has changed
-  pub kept-later : (later : List Bucket) → hideFrom (b .at) later ≡ hideFrom (b .at) table
-      → hideFrom (suc (b .at)) later ≡ hideFrom (suc (b .at)) (insert n table b)
-      → getD later (putBucket n later b) empty ≡ b
-  kept-later later p q =
-      ap (λ (k : ℕ). getD later k empty) same-place ∙ shown (decLt (atOf later slot) (suc (b .at)))
-    where
-      whole : hideFrom (b .at) table ≡ table
-      whole = hideFrom-is (b .at) table table refl (λ k h. hide-shows (b .at) (getD table k empty) (omega (arith, t .below k)))
+      was : (c : ℕ) → a ≤ c → c ≤ x .at → (k : ℕ) → k < n → getD F k empty ≡ hide c (slots k)
+      was c low high k h =
+          elim (ℕ-discrete k slot) [
+            | yes e ↦ rw e (t .zeros slot slot-empty ∙ sym (ap (hide c) stays ∙ hide-hides c x high))
+            | no d ↦ let same = sym (kept k d) ∙ is k h in same ∙ sym (hide-same c (suc (x .at)) (slots k) (omega arith) (far same))
+          ]
+        where
+          far : getD F k empty ≡ hide (suc (x .at)) (slots k) → c ≤ offset k → suc (x .at) ≤ offset k
+          far same l =
+              elim (decLt (offset k) (suc (x .at))) [
+                | yes m ↦ absurd (omega (arith, t .below k, ap at (same ∙ hide-shows (suc (x .at)) (slots k) m)))
+                | no m ↦ omega arith
+              ]
 
-      same-place : putBucket n later b ≡ slot
-      same-place = slot-of (hideFrom (b .at) later) (p ∙ whole)
+  all-hold : (F : List Bucket) (m a : ℕ) (bs : List Bucket) → Inserted n F m a → 0 < a → m + length bs ≤ n → Rising a (bucketOffsets bs)
+      → ((k : ℕ) → k < n → slots k ≡ getD (insertAll n F bs) k empty) → Holds n slots F bs m a
+  unfolding insertAll slot
+  all-hold F m a [] t pos room r is = record {
+    was = λ k h. sym (ap (hide a) (is k h) ∙ hide-shows a (getD F k empty) (t .below k));
+    zeros = λ k h z. is k h ∙ t .zeros k (sym (ap at (is k h)) ∙ z);
+    used =
+        sum-same (λ (k : ℕ). bit 1 (offset k)) (λ (k : ℕ). bit 1 (atOf F k)) n (λ k h. ap (λ (b : Bucket). bit 1 (b .at)) (is k h))
+        ∙ t .used ∙ (let e : m ≡ m + 0 = omega arith in e);
+    stand = tt;
+  }
+  all-hold F m a (x ∷ bs) t pos room r is =
+      let le = r .0 in
+      let few : m < n = omega arith in
+      let rest = all-hold (insert n F x) (suc m) (suc (x .at)) bs (inserted-one F m a x t few pos le) (omega arith) (omega arith) (r .1) is in
+      let self : x .at ≤ x .at = omega arith in
+      let place : put x ≡ slot F m a x t few pos le = sym (takes F x (omega arith) (was F m a x t few pos le (rest .was) (x .at) le self)) in
+      record {
+        was = was F m a x t few pos le (rest .was) a (omega arith) le;
+        zeros = rest .zeros;
+        used = rest .used ∙ (let e : suc m + length bs ≡ m + suc (length bs) = omega arith in e);
+        stand = (
+          record {
+            inside = rw place (slot-in F m a x t few pos le);
+            holds = ap slots place ∙ stays F m a x t few pos le (rest .was);
+          },
+          rest .stand,
+        );
+      }
 
-      both : hide (suc (b .at)) (getD later slot empty) ≡ b
-      both =
-          sym (getD-hideFrom (suc (b .at)) later slot)
-          ∙ ap (λ (l : List Bucket). getD l slot empty) q
-          ∙ getD-hideFrom (suc (b .at)) (insert n table b) slot
-          ∙ ap (hide (suc (b .at))) got
-          ∙ hide-shows (suc (b .at)) b (omega arith)
-
-      shown : Dec (atOf later slot < suc (b .at)) → getD later slot empty ≡ b
-      shown (yes h) = sym (hide-shows (suc (b .at)) (getD later slot empty) h) ∙ both
-      shown (no h) =
-          let e : empty ≡ b = sym (hide-hides (suc (b .at)) (getD later slot empty) (omega arith)) ∙ both in
-          let z : 0 ≡ b .at = ap (λ (x : Bucket). x .at) e in
-          absurd (omega arith)
-
--- ---- all of them
-
-later-hidden : (n : ℕ) (table : List Bucket) (m a c : ℕ) (bs : List Bucket) → Inserted n table m a → 0 < a → m + length bs ≤ n
-    → Rising a (bucketOffsets bs) → Rising c (bucketOffsets bs) → hideFrom c (insertAll n table bs) ≡ hideFrom c table
-unfolding insertAll
-later-hidden n table m a c [] t p room r s = refl
-later-hidden n table m a c (b ∷ bs) t p room r s =
-    let h = s .0 in
-    later-hidden n (insert n table b) (suc m) (suc (b .at)) c bs
-    (inserted-one n table m a b t (omega arith) p (r .0))
-    (omega arith) (omega arith) (r .1) (rising-less c (suc (b .at)) (bucketOffsets bs) (omega arith) (s .1))
-    ∙ hidden n table m a b t (omega arith) p (r .0) c h
-
-stand-all : (n : ℕ) (table : List Bucket) (m a : ℕ) (bs : List Bucket) → Inserted n table m a → 0 < a → m + length bs ≤ n
-    → Rising a (bucketOffsets bs) → All (λ (b : Bucket). getD (insertAll n table bs) (putBucket n (insertAll n table bs) b) empty ≡ b) bs
-unfolding insertAll
-stand-all n table m a [] t p room r = tt
-stand-all n table m a (b ∷ bs) t p room r =
-    let h = r .0 in
-    let next = inserted-one n table m a b t (omega arith) p h in
-    let self : b .at ≤ b .at = omega arith in (
-      kept-later n table m a b t (omega arith) p h (insertAll n (insert n table b) bs)
-          (later-hidden n (insert n table b) (suc m) (suc (b .at)) (b .at) bs next (omega arith) (omega arith) (r .1)
-          (rising-less (b .at) (suc (b .at)) (bucketOffsets bs) (omega arith) (r .1))
-          ∙ hidden n table m a b t (omega arith) p h (b .at) self)
-          (later-hidden n (insert n table b) (suc m) (suc (b .at)) (suc (b .at)) bs next (omega arith) (omega arith) (r .1) (r .1)),
-      stand-all n (insert n table b) (suc m) (suc (b .at)) bs next (omega arith) (omega arith) (r .1),
-    )
-
-inserted-all : (n : ℕ) (table : List Bucket) (m a : ℕ) (bs : List Bucket) → Inserted n table m a → 0 < a → m + length bs ≤ n
-    → Rising a (bucketOffsets bs) → (e : ℕ) × Inserted n (insertAll n table bs) (m + length bs) e
-unfolding insertAll
-inserted-all n table m a [] t p room r = let e : m ≡ m + 0 = omega arith in (a, rw e at t)
-inserted-all n table m a (b ∷ bs) t p room r =
-    let e : suc m + length bs ≡ m + suc (length bs) = omega arith in
-    rw e at
-    (inserted-all n (insert n table b) (suc m) (suc (b .at)) bs (inserted-one n table m a b t (omega arith) p (r .0)) (omega arith) (omega arith) (r .1))
-
-inserted-none : (n : ℕ) → Inserted n (replicate n empty) 0 1
-inserted-none n = record {
-  sized = length-replicate n empty;
-  zeros = λ k z. getD-empties n k;
-  used = countAtLeast-none 1 (bucketOffsets (replicate n empty)) (λ i h. let e = getD-bucketOffsets (replicate n empty) i in let f = none i in omega arith);
-  below = λ k. let f = none k in omega arith;
-}
-  where
-    none : (k : ℕ) → atOf (replicate n empty) k ≡ 0
-    none k = ap (λ (b : Bucket). b .at) (getD-empties n k)
-
-pub filled-matches : (n : ℕ) (bs : List Bucket) → length bs ≤ n → Rising 1 (bucketOffsets bs) → TableMatches n (filled n bs) bs
-unfolding filled
-filled-matches n bs room rising =
-    let (e, t) = inserted-all n (replicate n empty) 0 1 bs (inserted-none n) (omega arith) (omega arith) rising in
-    record {
-      sized = t .sized;
-      zeros = t .zeros;
-      used = let u = t .used in omega arith;
-      stand = stand-all n (replicate n empty) 0 1 bs (inserted-none n) (omega arith) (omega arith) rising;
-    }
+  pub filled-matches : (bs : List Bucket) → length bs ≤ n → Rising 1 (bucketOffsets bs) → Filled n slots bs → TableMatches n slots bs
+  unfolding filled
+  filled-matches bs room r is =
+      let h = all-hold (replicate n empty) 0 1 bs inserted-none (omega arith) (omega arith) r (is .each) in
+      record { zeros = h .zeros; used = omega (arith, h .used); stand = h .stand }

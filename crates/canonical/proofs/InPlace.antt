@@ -1,4 +1,4 @@
--- The parts of an image, compared in place with those of some entries. Assumes nothing.
+-- The words and entries of an image, read in place, are those of the image of some entries. Assumes nothing.
 use Prim.Native.Nat.{ℕ, _+_, _*_, _<_}
 use mathlib.Core.Path.{_≡_}
 use mathlib.Core.Bool.{true}
@@ -6,19 +6,13 @@ use mathlib.Core.List.{List, map}
 use lib.ListN.{length}
 use Rattle.image.specs.Bytes.{word, cat}
 use Rattle.image.specs.Image.{Entry, headSize, entryBytes, placed, ofTable, count, bucketOf, entriesBefore, tableOffset, flagWord, backSizeOf, backOffset}
-use Rattle.image.specs.Image.{entriesEnd, imageSize}
+use Rattle.image.specs.Image.{entriesEnd, imageSize, backWord}
 use Rattle.image.specs.Head.{tableAt, bucketNumber}
+use Rattle.image.specs.Tables.{Filled}
 use Rattle.image.specs.declared.Mode.{Mode}
-use Rattle.image.specs.declared.Mode.the-variants.{Twoway, Oneway}
 use Rattle.image.proofs.At.{At}
 use Rattle.reader.specs.Open.{hasLetters}
-use Rattle.canonical.specs.steps.HiddenBuckets.{TableMatches, BackArrayMatches}
-use Rattle.canonical.specs.steps.InPlace.{bucketsInPlace, wordsAt}
-
--- the links of a two-way image; a one-way image has none
-abbrev pub LinksIn : Mode → List ℕ → List Entry → Type 0
-LinksIn Twoway img es = BackArrayMatches (wordsAt img (entriesEnd es + 16 * length es) (backSizeOf Twoway es)) (placed headSize es)
-LinksIn Oneway img es = Unit {0}
+use Rattle.canonical.specs.steps.InPlace.{slotsAt, linkAt}
 
 pub record InPlace (img : List ℕ) (mode : Mode) (es : List Entry) : Type 0 where
   pub letters : hasLetters img ≡ true
@@ -32,7 +26,6 @@ pub record InPlace (img : List ℕ) (mode : Mode) (es : List Entry) : Type 0 whe
       → (tableAt img t ≡ tableOffset (entriesEnd es) (placed headSize es) t) × (bucketNumber img t ≡ 2 * count t (placed headSize es))
   pub entries : At img headSize (cat entryBytes es)
   pub tables : (t : ℕ) → t < 256
-      → TableMatches (2 * count t (placed headSize es))
-      (bucketsInPlace img (entriesEnd es + 16 * entriesBefore t (placed headSize es)) (2 * count t (placed headSize es)))
+      → Filled (2 * count t (placed headSize es)) (slotsAt img (entriesEnd es + 16 * entriesBefore t (placed headSize es)))
       (map bucketOf (ofTable t (placed headSize es)))
-  pub linked : LinksIn mode img es
+  pub links : (i : ℕ) → i < backSizeOf mode es → backWord (placed headSize es) i ≡ linkAt img (entriesEnd es + 16 * length es) i

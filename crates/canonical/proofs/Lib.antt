@@ -1,23 +1,30 @@
 -- Laws about canonical images.
-pub mod CountAtLeast
-pub mod HiddenBuckets
-pub mod FilledTable
+
+-- counting, and when a table or a back array matches entries
+pub mod Sums
+pub mod Cells
 pub mod BackArray
+pub mod FilledTable
+pub mod RisingOffsets
+-- the puts of an image, read back
 pub mod ReadBack
 pub mod EntriesAhead
-pub mod InPlace
+-- an image by its words and entries
 pub mod Concatenation
-pub mod RisingOffsets
+pub mod InPlace
 pub mod InPlaceImage
 pub mod ImageInPlace
+-- the checks, and what they decide
 pub mod TableChecks
 pub mod EntryChecks
 pub mod ChecksSuffice
 pub mod ChecksHold
-pub mod ListImages
-pub mod Theorem
-pub mod ExampleRows
+pub mod Decision
+-- the loops
 pub mod TableLoops
 pub mod EntryBuckets
 pub mod EntryLoop
-pub mod Decision
+-- lists of calls, the theorem, and worked examples
+pub mod ListImages
+pub mod Theorem
+pub mod ExampleRows

@@ -4,31 +4,28 @@ use native.Mathlib.Omega.{arith}
 use mathlib.Core.Path.{_≡_, sym, ap, _∙_}
 use mathlib.Core.Bool.{false, and-false}
 use mathlib.Core.List.{List, [], _∷_, _++_, append-assoc, append-nil}
-use lib.ListN.{length}
+use lib.ListN.{length, length-append}
 use borrow.Author.Tests.{le-ltb}
 use Rattle.image.specs.Image.{Entry, headSize, backSize, imageSize, image, containsName}
 use Rattle.image.specs.Zero.{hasZero}
 use Rattle.image.specs.declared.Mode.{Mode}
 use Rattle.image.specs.declared.Mode.the-variants.{Twoway, Oneway}
 use Rattle.image.proofs.AllOfList.{All}
-use Rattle.image.proofs.Sizes.{length-image}
+use Rattle.image.proofs.Sizes.{entriesSize-append, length-image}
 use Rattle.writer.specs.declared.Repeats.{Repeats}
 use Rattle.writer.specs.declared.Repeats.the-variants.{On}
-use Rattle.lists.specs.Calls.{Call, put, acceptedOne, putsSize, sizeOf, putDue, acceptedFrom, accepted, WordIds, putAll}
+use Rattle.lists.specs.Calls.{Call, put, acceptedOne, sizeOf, putDue, acceptedFrom, accepted, WordIds, putAll}
 use Rattle.lists.specs.Demand3.{acceptedPuts, imageOf}
 use Rattle.lists.proofs.Appended.{sizeOf-is}
+use Rattle.lists.proofs.Capacity.{back-rises}
 use Rattle.lists.proofs.CallLists.{list-written, list-accepted}
 use Rattle.lists.proofs.OneMoreClose.{list-image, list-below}
 use Rattle.lists.proofs.Readings.{accepted-free}
 use Rattle.canonical.specs.steps.Made.{Storable, Made}
 use Rattle.canonical.specs.Canonical.{putsIn, modeIn}
-use Rattle.canonical.proofs.ReadBack.{word-ids, puts-image, flag-of-image}
+use Rattle.canonical.proofs.ReadBack.{word-ids, storables, puts-image, flag-of-image}
 
 -- ---- the image of every list is canonical, and its puts are the accepted ones
-
-storables : (es : List Entry) → All (λ (e : Entry). hasZero (e .name) ≡ false) es → All (λ (e : Entry). e .id < 2 ^ 32) es → All Storable es
-storables [] f i = tt
-storables (e ∷ es) f i = (record { free = f .0; id-word = i .0 }, storables es (f .1) (i .1))
 
 module _ (mode : Mode) (repeats : Repeats) (buffer : List ℕ) (room : headSize ≤ length buffer) (cs : List Call) (word : WordIds mode cs) where
   ids : All (λ (e : Entry). e .id < 2 ^ 32) (accepted mode repeats (length buffer) cs)
@@ -67,20 +64,15 @@ lists-injective mode repeats₁ buffer₁ room₁ cs₁ word₁ repeats₂ buffe
 
 -- ---- a canonical image is that of the list of its puts
 
-putsSize-more : (xs ys : List Entry) → putsSize xs ≤ putsSize (xs ++ ys)
-unfolding putsSize
-putsSize-more [] ys = omega arith
-putsSize-more (e ∷ xs) ys = let h = putsSize-more xs ys in omega arith
-
 backSize-more : (xs ys : List Entry) → backSize xs ≤ backSize (xs ++ ys)
 unfolding backSize
 backSize-more [] ys = omega arith
 backSize-more (e ∷ xs) ys = let h = backSize-more xs ys in omega arith
 
 sizeOf-more : (mode : Mode) (xs ys : List Entry) → sizeOf mode xs ≤ sizeOf mode (xs ++ ys)
-unfolding sizeOf
-sizeOf-more Twoway xs ys = omega (arith, putsSize-more xs ys, backSize-more xs ys)
-sizeOf-more Oneway xs ys = omega (arith, putsSize-more xs ys)
+sizeOf-more mode xs ys =
+    let back = back-rises mode (backSize xs) (backSize (xs ++ ys)) (backSize-more xs ys) in
+    omega (arith, sizeOf-is mode xs, sizeOf-is mode (xs ++ ys), entriesSize-append xs ys, length-append xs ys)
 
 -- in the repeats mode nothing is due to a put whose name has no zero byte, where its size exceeds neither limit
 none-due : (mode : Mode) (n : ℕ) (done : List Entry) (e : Entry) → hasZero (e .name) ≡ false → sizeOf mode (done ++ (e ∷ [])) ≤ n

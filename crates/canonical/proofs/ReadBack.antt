@@ -2,22 +2,21 @@
 use Prim.Native.Nat.{ℕ, zero, suc, _+_, _-_, _^_, _≤_, _<_}
 use native.Mathlib.Omega.{arith}
 use mathlib.Core.Path.{_≡_, refl, sym, ap, ap₂, _∙_}
-use mathlib.Core.Bool.{true, cond, not, _&&_}
+use mathlib.Core.Bool.{true, false, cond, not, _&&_}
 use mathlib.Core.List.{List, [], _∷_, _++_, append-assoc}
 use lib.ListN.{length, drop}
 use lib.Dec.{eqb, leb}
 use borrow.Author.Tests.{leb-true, le-leb, not-true}
 use Rattle.jhash.specs.Outcome.{Outcome}
 use Rattle.image.specs.Bytes.{word, le32, cat, same}
-use Rattle.image.specs.Image.{Entry, headSize, entryBytes, entriesSize, backSize, backSizeOf, backOffset, imageSize, flagWord, headWords, image}
+use Rattle.image.specs.Image.{Entry, headSize, entryBytes, entriesSize, backSize, imageSize, flagWord, headBytes, headWords, image}
 use Rattle.image.specs.Stored.{entriesIn, firstEntry, afterFirst}
 use Rattle.image.proofs.EntryArea.{AllBytes, bytes-drop, bytes-take, ids-words}
-use Rattle.image.proofs.At.{At, at-same, at-left, at-right, at-word}
+use Rattle.image.proofs.At.{At}
 use Rattle.image.proofs.Bools.{and-first, and-second, and-both}
 use Rattle.image.proofs.Equal.{same-true, same-self}
-use Rattle.image.proofs.AllOfList.{All, all-map}
+use Rattle.image.proofs.AllOfList.{All, all-map, all-both}
 use Rattle.image.proofs.Parts.{head-at, entries-at}
-use Rattle.image.proofs.Words.{length-le32}
 use Rattle.reader.specs.Open.{opening}
 use Rattle.lookup_laws.proofs.ImageOpening.{opening-image}
 use Rattle.lists.proofs.Parse.{AllWordSized, first-entry, after-first}
@@ -39,24 +38,9 @@ parsed-front (e ∷ es) rest ok =
 
 -- the flag word
 pub flag-image : (mode : Mode) (es : List Entry) → word (image mode es) 8 ≡ flagWord mode
-unfolding headWords
-flag-image mode es =
-    let a : At (image mode es) 0 (to-8 ++ le32 (flagWord mode) ++ le32 0x62445371 ++ le32 (backSizeOf mode es) ++ le32 (backOffset mode es)) =
-    head-at mode es in
-    let b = at-left (to-8 ++ le32 (flagWord mode) ++ le32 0x62445371 ++ le32 (backSizeOf mode es)) (le32 (backOffset mode es)) a in
-    let c = at-left (to-8 ++ le32 (flagWord mode) ++ le32 0x62445371) (le32 (backSizeOf mode es)) b in
-    let d = at-left (to-8 ++ le32 (flagWord mode)) (le32 0x62445371) c in
-    at-word (flagWord mode) (at-same eight (at-right to-8 (le32 (flagWord mode)) d)) (small mode)
-  where
-    to-8 : List ℕ
-    to-8 = 67 ∷ 81 ∷ 68 ∷ 66 ∷ [] ++ le32 (imageSize mode es)
-
-    eight : 0 + length to-8 ≡ 8
-    eight = simp length-le32
-
-    small : (m : Mode) → flagWord m < 2 ^ 32
-    small Twoway = omega arith
-    small Oneway = omega arith
+unfolding word le32 headBytes headWords
+flag-image Twoway es = ap (λ (l : List ℕ). word l 8) (head-at Twoway es .stands)
+flag-image Oneway es = ap (λ (l : List ℕ). word l 8) (head-at Oneway es .stands)
 
 -- names that are read from bytes are bytes
 pub names-bytes : (n : ℕ) (l : List ℕ) → AllBytes l → All (λ (e : Entry). AllBytes (e .name)) (entriesIn n l)
@@ -107,13 +91,13 @@ frees (e ∷ es) a = and-both (not (hasZero (e .name))) (noZeroBytes es) (ap not
 pub ids-of : (es : List Entry) → All Storable es → WordIds es
 ids-of es a = all-map (λ e s. s .id-word) es a
 
-storables : (es : List Entry) → noZeroBytes es ≡ true → WordIds es → All Storable es
+pub storables : (es : List Entry) → All (λ (e : Entry). hasZero (e .name) ≡ false) es → WordIds es → All Storable es
+storables es f i = all-map (λ e s. record { free = s .0; id-word = s .1 }) es (all-both (λ (e : Entry). hasZero (e .name) ≡ false) _ es f i)
+
+names-free : (es : List Entry) → noZeroBytes es ≡ true → All (λ (e : Entry). hasZero (e .name) ≡ false) es
 unfolding noZeroBytes
-storables [] f i = tt
-storables (e ∷ es) f i = (
-  record { free = not-true (hasZero (e .name)) (and-first (not (hasZero (e .name))) (noZeroBytes es) f); id-word = i .0 },
-  storables es (and-second (not (hasZero (e .name))) (noZeroBytes es) f) (i .1),
-)
+names-free [] f = tt
+names-free (e ∷ es) f = (not-true _ (and-first (not (hasZero (e .name))) _ f), names-free es (and-second (not (hasZero (e .name))) _ f))
 
 -- puts and direction of an image that puts make are read back
 pub made-puts : (img : List ℕ) (m : Made img) → putsIn img ≡ m .puts
@@ -144,7 +128,9 @@ canonical-only img bytes h =
     record {
       mode = modeIn img;
       puts = putsIn img;
-      each = storables (putsIn img) (and-first a b ab) (ids-words (counted (opening img)) (drop headSize img) (bytes-drop headSize img bytes));
+      each =
+          storables (putsIn img) (names-free (putsIn img) (and-first a b ab))
+          (ids-words (counted (opening img)) (drop headSize img) (bytes-drop headSize img bytes));
       fits = leb-true (imageSize (modeIn img) (putsIn img)) 4294967295 (and-second a b ab);
       is = same-true (image (modeIn img) (putsIn img)) img (and-second (a && b) c h);
     }

@@ -4,12 +4,13 @@ use mathlib.Core.List.{List, [], _∷_, map}
 use Prim.Native.Nat.{ℕ, suc, _+_}
 use native.Mathlib.Omega.{arith}
 use Rattle.image.specs.Bytes.{filter}
-use Rattle.image.specs.Image.{Entry, Placed, entrySize, placed, inTable, ofTable, bucketOf}
-use Rattle.canonical.specs.steps.HiddenBuckets.{Rising, bucketOffsets}
-use Rattle.canonical.proofs.CountAtLeast.{rising-less}
+use Rattle.image.specs.Image.{Entry, Placed, headSize, entrySize, placed, inTable, ofTable, bucketOf}
+use Rattle.canonical.specs.steps.HiddenBuckets.{Rising}
+use Rattle.canonical.proofs.Sums.{rising-less}
 use Rattle.canonical.proofs.BackArray.{offsets}
+use Rattle.canonical.proofs.FilledTable.{bucketOffsets}
 
-pub rises : (o : ℕ) (es : List Entry) → Rising o (offsets (placed o es))
+rises : (o : ℕ) (es : List Entry) → Rising o (offsets (placed o es))
 unfolding placed
 rises o [] = tt
 rises o (e ∷ es) = (omega arith, rising-less (suc o) (o + entrySize e) (offsets (placed (o + entrySize e) es)) (omega arith) (rises (o + entrySize e) es))
@@ -24,6 +25,10 @@ rises-keep test a (p ∷ ps) r = either-rises (test p) (rises-keep test (suc (p 
     either-rises true rest = (r .0, rest)
     either-rises false rest = let h = r .0 in rising-less a (suc (p .at)) (bucketOffsets (map bucketOf (filter test ps))) (omega arith) rest
 
-pub rises-table : (t a : ℕ) (ps : List Placed) → Rising a (offsets ps) → Rising a (bucketOffsets (map bucketOf (ofTable t ps)))
+-- from the end of the head on
+pub all-rise : (es : List Entry) → Rising 1 (offsets (placed headSize es))
+all-rise es = rising-less 1 headSize (offsets (placed headSize es)) (omega arith) (rises headSize es)
+
+pub table-rises : (es : List Entry) (t : ℕ) → Rising 1 (bucketOffsets (map bucketOf (ofTable t (placed headSize es))))
 unfolding ofTable
-rises-table t a ps r = rises-keep (inTable t) a ps r
+table-rises es t = rises-keep (inTable t) 1 (placed headSize es) (all-rise es)

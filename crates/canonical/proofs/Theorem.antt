@@ -69,7 +69,7 @@ none-more : (img more : List ℕ) → length (img ++ more) ≡ length img → mo
 none-more img [] e = refl
 none-more img (x ∷ more) e = absurd (omega (arith, length-append img (x ∷ more)))
 
-pub made-alone : (img more : List ℕ) → Made img → Made (img ++ more) → more ≡ []
+made-alone : (img more : List ℕ) → Made img → Made (img ++ more) → more ≡ []
 made-alone img more a b =
     let long : headSize ≤ length img = omega (arith, made-size img a img (omega arith)) in
     none-more img more (sym (size-word (img ++ more) b) ∙ front-word img more (omega arith) ∙ size-word img a)

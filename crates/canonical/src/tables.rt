@@ -6,8 +6,8 @@ ghost use lib.Dec.{eqb};
 ghost use lib.ListN.{length};
 ghost use Rattle.image.specs.Bytes.{word};
 ghost use Rattle.image.specs.steps.Contracts.{SizeRead};
-ghost use Rattle.canonical.specs.steps.HiddenBuckets.{bit, countAtLeast};
-ghost use Rattle.canonical.specs.steps.InPlace.{wordsAt};
+ghost use Rattle.canonical.specs.steps.HiddenBuckets.{bit, usedTo};
+ghost use Rattle.canonical.specs.steps.InPlace.{linkAt};
 ghost use Rattle.canonical.specs.steps.Checks.{tableOk, rowsOk, countsMatch};
 ghost use Rattle.canonical.specs.steps.Contracts.{CheckTablePre, CheckRowsPre, WordsPre};
 use image::head::BUCKET_NUMBERS_AT;
@@ -78,7 +78,7 @@ fn check_table(image: &[u8], o: usize, c: usize) -> bool
 // end of the image.
 pub(super) fn check_rows(image: &[u8], end: usize) -> bool
     requires { ⌜ CheckRowsPre (now image) end ⌝ }
-    ensures { λ r. ⌜ r ≡ rowsOk (now (image .entry)) end 0 256 ⌝ }
+    ensures { λ r. ⌜ r ≡ rowsOk (now (image .entry)) end ⌝ }
 {
     let mut o = end;
     let mut t: usize = 0;
@@ -124,7 +124,7 @@ pub(super) fn counts_match(image: &[u8], counts: &[u32; 256]) -> bool
 // How many of the n words at o are not 0.
 pub(super) fn count_used(image: &[u8], o: usize, n: usize) -> usize
     requires { ⌜ WordsPre o n ⌝ }
-    ensures { λ r. ⌜ r ≡ countAtLeast 1 (wordsAt (now (image .entry)) o n) ⌝ }
+    ensures { λ r. ⌜ r ≡ usedTo (linkAt (now (image .entry)) o) n ⌝ }
 {
     let mut used: usize = 0;
     let mut k: usize = 0;

@@ -3,11 +3,12 @@ use borrow.Author.Needs.{needs}
 use native.Mathlib.Omega.{arith}
 use Prim.Native.Nat.{ℕ, _+_, _*_, _-_}
 use mathlib.Core.Path.{_≡_, sym, ap, ap₂, _∙_}
-use mathlib.Core.Bool.{cond}
+use mathlib.Core.Bool.{false, cond}
 use lib.Dec.{eqb}
 use Rattle.jhash.specs.Word.{AllBytes}
 use Rattle.image.specs.Head.{backSizeAt}
-use Rattle.canonical.specs.steps.Checks.{endIn}
+use Rattle.canonical.specs.steps.Checks.{endIn, Checked}
+use Rattle.canonical.specs.Canonical.{canonical}
 use Rattle.canonical.proofs.Decision.{refuse, decided}
 use Rattle.canonical.proofs.TableChecks.{opened-inside}
 use Rattle.canonical.proofs.check_opened.Statement.{statement}
@@ -33,30 +34,25 @@ wanted c =
     c .offset-or-zero .ensures
     ∙ ap₂ (λ (k l : ℕ). cond (eqb k 0) 0 (l - (16 * n + 4 * k) + 16 * n)) (b .size-or-zero2 .ensures .is) (b .before .before .before .if1 .left)
 
+-- one check fails
+refused : (f : tie.After-size-or-zero) → (Checked (start f .args .image .now) (start f .args .n) → ⊥) → false ≡ canonical (start f .args .image .now)
+refused f d = refuse (start f .args .image .now) (start f .args .n) (bytes f) (start f .pre) d
+
 returns : tie.Need-returns
-returns c =
-    let s = start (c .before) in
-    refuse (s .args .image .now) (s .args .n) (bytes (c .before)) (s .pre) (λ k. c .if1 .taken (c .before .size-or-zero .ensures .is ∙ k .size))
+returns c = refused (c .before) (λ k. c .if1 .taken (c .before .size-or-zero .ensures .is ∙ k .size))
 
 returns-2 : tie.Need-returns-2
-returns-2 c =
-    let f = c .before .before .before in
-    let s = start f in
-    refuse (s .args .image .now) (s .args .n) (bytes f) (s .pre) (λ k. omega (arith, k .flag, c .before .word-or-zero .ensures, c .if2 .taken))
+returns-2 c = refused (c .before .before .before) (λ k. omega (arith, k .flag, c .before .word-or-zero .ensures, c .if2 .taken))
 
 returns-3 : tie.Need-returns-3
 returns-3 c =
     let b = c .before in
-    let s = start (first b) in
-    refuse (s .args .image .now) (s .args .n) (bytes (first b)) (s .pre)
-    (λ k. omega (arith, k .room, b .size-or-zero2 .ensures .is, b .before .before .before .if1 .left, c .if3 .taken))
+    refused (first b) (λ k. omega (arith, k .room, b .size-or-zero2 .ensures .is, b .before .before .before .if1 .left, c .if3 .taken))
 
 returns-4 : tie.Need-returns-4
 returns-4 c =
-    let f = first (c .before .before .before .before) in
-    let s = start f in
-    refuse (s .args .image .now) (s .args .n) (bytes f) (s .pre)
-    (λ k. c .if4 .taken (c .before .before .size-or-zero3 .ensures .is ∙ k .back-offset ∙ sym (wanted (c .before))))
+    let offset = c .before .before in
+    refused (first (offset .before .before)) (λ k. c .if4 .taken (offset .size-or-zero3 .ensures .is ∙ k .back-offset ∙ sym (wanted (c .before))))
 
 check-body-requires : tie.Need-check-body-requires
 check-body-requires c κs =

@@ -1,25 +1,25 @@
 -- The checks by which the code decides whether an image is canonical, in place and without a second buffer. All of them
 -- hold exactly when it is.
-use Prim.Native.Nat.{ℕ, zero, suc, _+_, _*_, _-_, _/_, _≤_, _<_}
+use Prim.Native.Nat.{ℕ, _+_, _*_, _-_, _/_, _≤_, _<_}
 use mathlib.Core.Path.{_≡_}
-use mathlib.Core.Bool.{Bool, true, false, cond, not, _&&_, _||_}
-use mathlib.Core.List.{List, [], _∷_, map}
+use mathlib.Core.Bool.{Bool, true, cond, not, _&&_, _||_}
+use mathlib.Core.List.{List, [], _∷_}
 use lib.ListN.{length, getD, take, drop, replicate}
 use lib.Dec.{eqb, ltb}
 use Rattle.jhash.specs.NameHash.{hashOf}
 use Rattle.jhash.specs.Outcome.{value}
-use Rattle.image.specs.Bytes.{word, range, all}
+use Rattle.image.specs.Bytes.{word, all}
 use Rattle.image.specs.Head.{tableAt, bucketNumber, backSizeAt, backOffsetAt}
 use Rattle.image.specs.Image.{Entry, Placed, headSize, placed, backSize, backIn}
 use Rattle.image.specs.Stored.{whole, entriesIn, between}
 use Rattle.image.specs.Tables.{tableOf, start}
 use Rattle.image.specs.Tally.{tallied}
 use Rattle.image.specs.Zero.{hasZero}
-use Rattle.image.specs.steps.Contracts.{firstEmptyBefore}
+use Rattle.image.specs.steps.Contracts.{offsetAt, firstEmptyBefore}
 use Rattle.reader.specs.Open.{opening}
-use Rattle.canonical.specs.steps.HiddenBuckets.{countAtLeast}
+use Rattle.canonical.specs.steps.HiddenBuckets.{sumTo, usedTo, selfLinks}
 use Rattle.canonical.specs.Canonical.{modeIn}
-use Rattle.canonical.specs.steps.InPlace.{wordsAt}
+use Rattle.canonical.specs.steps.InPlace.{linkAt}
 
 -- ---- the entries
 
@@ -27,13 +27,10 @@ use Rattle.canonical.specs.steps.InPlace.{wordsAt}
 abbrev pub endIn : List ℕ → ℕ → ℕ
 endIn img n = length img - (16 * n + 4 * backSizeAt img)
 
-abbrev pub areaIn : List ℕ → ℕ → List ℕ
-areaIn img n = between img headSize (endIn img n)
+-- the n entries before `end`, and the m from `at` on with their offsets
+abbrev pub entriesTo : List ℕ → ℕ → ℕ → List Entry
+entriesTo img end n = entriesIn n (between img headSize end)
 
-abbrev pub checkedEntries : List ℕ → ℕ → List Entry
-checkedEntries img n = entriesIn n (areaIn img n)
-
--- the m entries from `at` to `end`, with their offsets
 abbrev pub placedFrom : List ℕ → ℕ → ℕ → ℕ → List Placed
 placedFrom img end m at = placed at (entriesIn m (between img at end))
 
@@ -56,26 +53,26 @@ TablesHeld img =
 abbrev pub clean : List ℕ → ℕ → ℕ → Bool
 clean img o k = not (eqb (word img (o + 8 * k + 4)) 0) || eqb (word img (o + 8 * k)) 0
 
--- how many of the m buckets from bucket k on are used
-unfoldable pub usedIn : List ℕ → ℕ → ℕ → ℕ → ℕ
-usedIn img o k m = countAtLeast 1 (map (λ (k : ℕ). word img (o + 8 * k + 4)) (range k m))
-
 -- of the 2c buckets at o the empty ones are zero, and c are used
 unfoldable pub tableOk : List ℕ → ℕ → ℕ → Bool
-tableOk img o c = all (clean img o) 0 (2 * c) && eqb (usedIn img o 0 (2 * c)) c
+tableOk img o c = all (clean img o) 0 (2 * c) && eqb (usedTo (offsetAt img o) (2 * c)) c
 
--- the number of entries that row t stands for
+-- the number of entries that row t stands for, and where its table begins, if the first is at `end`
 abbrev pub rowCount : List ℕ → ℕ → ℕ
 rowCount img t = bucketNumber img t / 2
 
--- the rows of the m tables from t on, and the tables; the first with entries is at o
-unfoldable pub rowsOk : List ℕ → ℕ → ℕ → ℕ → Bool
-rowsOk img o t zero = true
-rowsOk img o t (suc m) =
+abbrev pub tablePlace : List ℕ → ℕ → ℕ → ℕ
+tablePlace img end t = end + 16 * sumTo (rowCount img) t
+
+-- row t, and its table
+unfoldable pub rowOk : List ℕ → ℕ → ℕ → Bool
+rowOk img end t =
     eqb (bucketNumber img t) (2 * rowCount img t)
-    && eqb (tableAt img t) (cond (eqb (rowCount img t) 0) 0 o)
-    && tableOk img o (rowCount img t)
-    && rowsOk img (o + 16 * rowCount img t) (suc t) m
+    && eqb (tableAt img t) (cond (eqb (rowCount img t) 0) 0 (tablePlace img end t))
+    && tableOk img (tablePlace img end t) (rowCount img t)
+
+abbrev pub rowsOk : List ℕ → ℕ → Bool
+rowsOk img end = all (rowOk img end) 0 256
 
 -- have the tables these numbers of entries?
 abbrev pub countsMatch : List ℕ → List ℕ → Bool
@@ -84,7 +81,7 @@ countsMatch img counts = all (λ (t : ℕ). eqb (bucketNumber img t) (2 * getD c
 -- ---- each entry in its table
 
 -- the bucket that the put at `at` took: the first of its probe sequence that is empty or has an offset at or after `at`
-unfoldable pub bucketTaken : List ℕ → ℕ → ℕ → ℕ
+abbrev pub bucketTaken : List ℕ → ℕ → ℕ → ℕ
 bucketTaken img h at =
     let o = tableAt img (tableOf h) in
     let n = bucketNumber img (tableOf h) in
@@ -111,32 +108,31 @@ abbrev pub notBefore : Bool → ℕ → ℕ → Bool
 notBefore two at w = not (two && ltb w at)
 
 abbrev pub entryOk : List ℕ → Bool → ℕ → Placed → Bool
-entryOk img two o p = notBefore two (p .at) (word img (o + 4 * p .entry .id)) && nameOk img (p .at) (p .entry .name)
+entryOk img two o p = notBefore two (p .at) (linkAt img o (p .entry .id)) && nameOk img (p .at) (p .entry .name)
 
 unfoldable pub entriesOk : List ℕ → Bool → ℕ → List Placed → Bool
 entriesOk img two o [] = true
 entriesOk img two o (p ∷ ps) = entryOk img two o p && entriesOk img two o ps
 
--- how many entries have their own offset in their id's link
-unfoldable pub selfLinksIn : List ℕ → ℕ → List Placed → ℕ
-selfLinksIn img o [] = 0
-selfLinksIn img o (p ∷ ps) = cond (eqb (word img (o + 4 * p .entry .id)) (p .at)) 1 0 + selfLinksIn img o ps
+-- the n entries before `end` are whole and pass the checks
+abbrev pub entriesValid : List ℕ → ℕ → ℕ → Bool → ℕ → Bool
+entriesValid img end n two o =
+    whole n (between img headSize end) && entriesOk img two o (placedFrom img end n headSize)
 
--- as many of the n links are above 0
+-- as many of the n links are above 0 as entries have their own offset in their id's link
 abbrev pub linksCounted : List ℕ → ℕ → ℕ → List Placed → Bool
-linksCounted img o n ps = eqb (countAtLeast 1 (wordsAt img o n)) (selfLinksIn img o ps)
+linksCounted img o n ps = eqb (usedTo (linkAt img o) n) (selfLinks (linkAt img o) ps)
 
 -- ---- all of them
 
 -- behind the head: n entries that end at `end`, and `back` links
 unfoldable pub bodyOk : List ℕ → ℕ → ℕ → ℕ → Bool
 bodyOk img n end back =
-    cond (rowsOk img end 0 256)
-    (cond (whole n (between img 2072 end) && entriesOk img (twoWay img) (end + 16 * n) (placedFrom img end n 2072))
-    (cond (countsMatch img (tallied (replicate 256 0) (entriesIn n (between img 2072 end))))
-    (cond (eqb back (backIn (modeIn img) (backSize (entriesIn n (between img 2072 end)))))
-    (cond (twoWay img) (linksCounted img (end + 16 * n) back (placedFrom img end n 2072)) true)
-    false) false) false) false
+    rowsOk img end
+    && entriesValid img end n (twoWay img) (end + 16 * n)
+    && countsMatch img (tallied (replicate 256 0) (entriesTo img end n))
+    && eqb back (backIn (modeIn img) (backSize (entriesTo img end n)))
+    && cond (twoWay img) (linksCounted img (end + 16 * n) back (placedFrom img end n headSize)) true
 
 -- and the head; n is the number that opening answers
 pub record Checked (img : List ℕ) (n : ℕ) : Type 0 where
@@ -145,12 +141,4 @@ pub record Checked (img : List ℕ) (n : ℕ) : Type 0 where
   pub flag : word img 8 ≤ 1
   pub room : headSize + (16 * n + 4 * backSizeAt img) ≤ length img
   pub back-offset : backOffsetAt img ≡ cond (eqb (backSizeAt img) 0) 0 (endIn img n + 16 * n)
-  pub wholes : whole n (areaIn img n) ≡ true
-  pub back-size : backSizeAt img ≡ backIn (modeIn img) (backSize (checkedEntries img n))
-  pub rows : rowsOk img (endIn img n) 0 256 ≡ true
-  pub counts : countsMatch img (tallied (replicate 256 0) (checkedEntries img n)) ≡ true
-  pub entries : entriesOk img (twoWay img) (endIn img n + 16 * n) (placed headSize (checkedEntries img n)) ≡ true
-  pub links :
-      cond (twoWay img)
-      (linksCounted img (endIn img n + 16 * n) (backSizeAt img) (placed headSize (checkedEntries img n))) true
-      ≡ true
+  pub body : bodyOk img n (endIn img n) (backSizeAt img) ≡ true

@@ -1,20 +1,20 @@
 -- What the functions ask of their callers and promise, by name.
 use Prim.Native.Nat.{ℕ, _+_, _*_, _^_, _≤_, _<_}
 use mathlib.Core.Path.{_≡_}
-use mathlib.Core.Bool.{Bool, true, cond, _&&_}
+use mathlib.Core.Bool.{Bool, true, cond}
 use mathlib.Core.List.{List}
 use lib.ListN.{length, getD}
 use lib.Dec.{eqb}
 use Rattle.jhash.specs.NameHash.{hashOf}
-use Rattle.image.specs.Image.{backSize}
-use Rattle.image.specs.Stored.{whole, entriesIn, between}
+use Rattle.image.specs.Image.{headSize, backSize}
 use Rattle.image.specs.Tally.{tallied}
 use Rattle.image.specs.steps.Contracts.{NameAtPre}
 use Rattle.reader.specs.Open.{opening}
 use Rattle.canonical.specs.Canonical.{counted, canonical}
 use Rattle.canonical.specs.declared.entries.EntriesChecked.{EntriesChecked}
-use Rattle.canonical.specs.steps.Checks.{entryName, entriesOk, selfLinksIn, placedFrom}
-use Rattle.canonical.specs.steps.Checks.{TablesInside, TablesHeld}
+use Rattle.canonical.specs.steps.HiddenBuckets.{selfLinks}
+use Rattle.canonical.specs.steps.InPlace.{linkAt}
+use Rattle.canonical.specs.steps.Checks.{entryName, entriesTo, placedFrom, entriesValid, TablesInside, TablesHeld}
 
 -- ---- words and tables
 
@@ -58,11 +58,10 @@ pub record CheckEntriesPre (img : List ℕ) (end o : ℕ) (counts : List ℕ) : 
 
 pub record EntriesFound (img : List ℕ) (end entries : ℕ) (two : Bool) (o : ℕ) (counts₀ counts : List ℕ)
     (r : EntriesChecked) : Type 0 where
-  pub valid : r .valid
-      ≡ (whole entries (between img 2072 end) && entriesOk img two o (placedFrom img end entries 2072))
-  pub back : r .valid ≡ true → r .back ≡ backSize (entriesIn entries (between img 2072 end))
-  pub linked : r .valid ≡ true → r .linked ≡ selfLinksIn img o (placedFrom img end entries 2072)
-  pub by-table : r .valid ≡ true → counts ≡ tallied counts₀ (entriesIn entries (between img 2072 end))
+  pub valid : r .valid ≡ entriesValid img end entries two o
+  pub back : r .valid ≡ true → r .back ≡ backSize (entriesTo img end entries)
+  pub linked : r .valid ≡ true → r .linked ≡ selfLinks (linkAt img o) (placedFrom img end entries headSize)
+  pub by-table : r .valid ≡ true → counts ≡ tallied counts₀ (entriesTo img end entries)
 
 pub record CheckBodyPre (img : List ℕ) (end back : ℕ) : Type 0 where
   pub area : Area img end

@@ -1,63 +1,67 @@
--- When a table or a back array is that of some entries, decided without building it again: 02 (ix). Offsets rise in
--- put order, and an insertion moves nothing. So the table before a put is the finished one without the entries from
--- that put on.
-use Prim.Native.Nat.{ℕ, suc, _+_, _≤_}
+-- When the buckets of a table or the links of a back array are those of some entries, decided without building them
+-- again: 02 (ix). Offsets rise in put order, and an insertion moves nothing. So the table before a put is the finished
+-- one without the entries from that put on.
+use Prim.Native.Nat.{ℕ, zero, suc, _+_, _≤_, _<_}
 use mathlib.Core.Path.{_≡_}
 use mathlib.Core.Bool.{cond}
-use mathlib.Core.List.{List, [], _∷_, map}
-use lib.ListN.{length, getD}
-use lib.Dec.{eqb, ltb, leb}
-use Rattle.image.specs.Image.{Placed}
-use Rattle.image.specs.Tables.{Bucket, empty, atOf, start, probeSequence, firstEmpty}
+use mathlib.Core.List.{List, [], _∷_}
+use lib.ListN.{length}
+use lib.Dec.{eqb, leb}
 use Rattle.image.specs.Bytes.{Each}
+use Rattle.image.specs.Image.{Placed}
+use Rattle.image.specs.Tables.{Bucket, empty, start, probeSequence, firstEmpty}
+use Rattle.image.specs.steps.Contracts.{hidden}
 
--- how many numbers of a list are a or more
+-- the sum of f 0, f 1 up to f (n - 1)
+unfoldable pub sumTo : (ℕ → ℕ) → ℕ → ℕ
+sumTo f zero = 0
+sumTo f (suc n) = sumTo f n + f n
+
+-- 1 for a number that is a or more, else 0; and how many of f 0 up to f (n - 1) are not 0
 abbrev pub bit : ℕ → ℕ → ℕ
 bit a x = cond (leb a x) 1 0
 
-unfoldable pub countAtLeast : ℕ → List ℕ → ℕ
-countAtLeast a [] = 0
-countAtLeast a (x ∷ xs) = bit a x + countAtLeast a xs
+abbrev pub usedTo : (ℕ → ℕ) → ℕ → ℕ
+usedTo f n = sumTo (λ (k : ℕ). bit 1 (f k)) n
 
 -- each number is larger than the one before, and the first is a or more
 abbrev pub Rising : ℕ → List ℕ → Type 0
 Rising a [] = Unit {0}
 Rising a (x ∷ xs) = (a ≤ x) × Rising (suc x) xs
 
--- the offsets in the buckets of a table
-abbrev pub bucketOffsets : List Bucket → List ℕ
-bucketOffsets table = map (λ (b : Bucket). b .at) table
+-- how many of a list have their value in their cell of f
+unfoldable pub inCells : {A : Type 0} → (A → ℕ) → (A → ℕ) → (ℕ → ℕ) → List A → ℕ
+inCells cell value f [] = 0
+inCells cell value f (x ∷ xs) = cond (eqb (f (cell x)) (value x)) 1 0 + inCells cell value f xs
 
--- a bucket, but empty if its offset is a or more; and a table of such buckets, as it was before the put of the entry
--- at a
-abbrev pub hide : ℕ → Bucket → Bucket
-hide a b = cond (ltb (b .at) a) b empty
-
-unfoldable pub hideFrom : ℕ → List Bucket → List Bucket
-hideFrom a table = map (hide a) table
+-- ---- tables
 
 -- the bucket that the put of b took: the first of its probe sequence that no earlier entry has
-abbrev pub putBucket : ℕ → List Bucket → Bucket → ℕ
-putBucket n table b = firstEmpty (atOf (hideFrom (b .at) table)) (probeSequence n n (start (b .hash) n))
+abbrev pub putBucket : ℕ → (ℕ → Bucket) → Bucket → ℕ
+putBucket n slots b = firstEmpty (λ (k : ℕ). hidden (b .at) (slots k .at)) (probeSequence n n (start (b .hash) n))
 
--- a table of n buckets in which each of these entries is in the bucket that its put took, and nothing else is
-pub record TableMatches (n : ℕ) (table bs : List Bucket) : Type 0 where
-  pub sized : length table ≡ n
+-- the bucket that the put of b took holds it
+pub record Stands (n : ℕ) (slots : ℕ → Bucket) (b : Bucket) : Type 0 where
+  pub inside : putBucket n slots b < n
+  pub holds : slots (putBucket n slots b) ≡ b
+
+-- n buckets in which each of these entries is in the bucket that its put took, and nothing else is
+pub record TableMatches (n : ℕ) (slots : ℕ → Bucket) (bs : List Bucket) : Type 0 where
   -- both words of an empty bucket are 0
-  pub zeros : (k : ℕ) → atOf table k ≡ 0 → getD table k empty ≡ empty
+  pub zeros : (k : ℕ) → k < n → slots k .at ≡ 0 → slots k ≡ empty
   -- there are as many used buckets as entries
-  pub used : countAtLeast 1 (bucketOffsets table) ≡ length bs
-  -- the bucket that each put took holds its entry
-  pub stand : Each (λ (b : Bucket). getD table (putBucket n table b) empty ≡ b) bs
+  pub used : usedTo (λ (k : ℕ). slots k .at) n ≡ length bs
+  pub stand : Each (Stands n slots) bs
+
+-- ---- back arrays
 
 -- how many entries have their own offset in their id's link
-unfoldable pub selfLinks : List ℕ → List Placed → ℕ
-selfLinks links [] = 0
-selfLinks links (p ∷ ps) = cond (eqb (getD links (p .entry .id) 0) (p .at)) 1 0 + selfLinks links ps
+abbrev pub selfLinks : (ℕ → ℕ) → List Placed → ℕ
+selfLinks links ps = inCells (λ (p : Placed). p .entry .id) (λ (p : Placed). p .at) links ps
 
--- a back array whose links are those of these entries
-pub record BackArrayMatches (links : List ℕ) (ps : List Placed) : Type 0 where
+-- n links that are those of these entries
+pub record BackArrayMatches (n : ℕ) (links : ℕ → ℕ) (ps : List Placed) : Type 0 where
   -- the link of each entry's id is its offset or a later one
-  pub ahead : Each (λ (p : Placed). p .at ≤ getD links (p .entry .id) 0) ps
+  pub ahead : Each (λ (p : Placed). p .at ≤ links (p .entry .id)) ps
   -- as many links are above 0 as entries have their own offset in their id's link
-  pub used : countAtLeast 1 links ≡ selfLinks links ps
+  pub used : usedTo links n ≡ selfLinks links ps

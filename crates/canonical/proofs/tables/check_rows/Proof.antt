@@ -3,14 +3,15 @@ use borrow.Author.Needs.{needs}
 use borrow.Author.Tests.{not-true, not-false}
 use native.Mathlib.Omega.{arith}
 use Prim.Native.Nat.{ℕ, _+_, _*_, _-_, _/_, _≤_}
-use mathlib.Core.Path.{_≡_, refl, sym, ap, _∙_}
+use mathlib.Core.Path.{_≡_, sym, ap, _∙_}
 use mathlib.Core.Bool.{cond}
 use mathlib.Core.List.{List}
 use lib.ListN.{length}
 use lib.Dec.{eqb}
 use Rattle.image.specs.Head.{tableAt, bucketNumber}
-use Rattle.canonical.specs.steps.Checks.{rowCount, tableOk}
-use Rattle.canonical.proofs.TableLoops.{Rows, rows-start, row-number, table-offset, row-room, row-table, row-next, rows-end}
+use Rattle.canonical.specs.steps.Checks.{rowCount, rowOk, tableOk}
+use Rattle.canonical.specs.steps.Contracts.{CheckRowsPre}
+use Rattle.canonical.proofs.TableLoops.{Rows, rows-start, row-number, table-offset, row-room, row-table, row-next, all-passed}
 use Rattle.canonical.proofs.tables.check_rows.Statement.{statement}
 use Rattle.canonical.proofs.tables.check_rows.Tie as tie
 
@@ -25,6 +26,9 @@ in-loop c = c .before .before
 
 abbrev image-of : tie.In-loop Inv-loop μ-loop → List ℕ
 image-of c = c .before .before .before .args .image .now
+
+abbrev pre-of : (c : tie.In-loop Inv-loop μ-loop) → CheckRowsPre (image-of c) (c .before .before .before .args .end)
+pre-of c = c .before .before .before .pre
 
 abbrev row : tie.In-loop Inv-loop μ-loop → ℕ
 row c = c .before .loop .t
@@ -53,10 +57,8 @@ room : (c : tie.Else2 Inv-loop μ-loop)
     l .before .loop .o + 16 * (c .before .before .before .before .row-number .result / 2) ≤ length (image-of l)
 room c =
     let e = c .before .before .before in
-    let l = (in-loop e) .before in
-    rw (count (e .before))
-    (row-room (image-of (in-loop e)) (l .loop .o) (row (in-loop e)) (tableAt (image-of (in-loop e)) (row (in-loop e))) (l .before .before .pre .tables)
-    ((in-loop e) .loop-test .taken) (l .loop .inv .some) (l .loop .inv .inside) (even e) refl (there c))
+    let t = in-loop e in
+    rw (count (e .before)) (row-room (pre-of t) (t .before .loop .inv) (t .loop-test .taken) (even e) (there c))
 
 -- what the table's check says; its number of buckets is even
 abbrev evened : tie.After-check-table Inv-loop μ-loop → tie.Else1 Inv-loop μ-loop
@@ -71,14 +73,14 @@ loop-holds c = rows-start (c .before .pre)
 
 returns : tie.Need-returns Inv-loop μ-loop
 returns c =
-    let l = c .before .before in
-    row-number (l .before .loop .inv) (l .loop-test .taken) (λ e. c .if1 .taken (rw (c .before .row-number .ensures .is) e))
+    let t = c .before .before in
+    row-number (pre-of t) (t .before .loop .inv) (t .loop-test .taken) (λ e. c .if1 .taken (rw (c .before .row-number .ensures .is) e))
 
 returns-2 : tie.Need-returns-2 Inv-loop μ-loop
 returns-2 c =
     let e = c .before .before .before in
-    let l = in-loop e in
-    table-offset (l .before .loop .inv) (l .loop-test .taken) (even e)
+    let t = in-loop e in
+    table-offset (pre-of t) (t .before .loop .inv) (t .loop-test .taken) (even e)
     (λ y. c .if2 .taken (c .before .before .table-offset .ensures .is ∙ y ∙ sym (wanted (c .before))))
 
 check-table-requires : tie.Need-check-table-requires Inv-loop μ-loop
@@ -87,8 +89,8 @@ check-table-requires c κs = record { inside = room c; number = search needs }
 returns-3 : tie.Need-returns-3 Inv-loop μ-loop
 returns-3 c =
     let e = evened (c .before) in
-    let l = in-loop e in
-    row-table (l .before .loop .inv) (l .loop-test .taken) (even e) (there (c .before .before)) (sym (table (c .before)) ∙ not-true _ (c .if3 .taken))
+    let t = in-loop e in
+    row-table (pre-of t) (t .before .loop .inv) (t .loop-test .taken) (even e) (there (c .before .before)) _ (table (c .before)) (not-true _ (c .if3 .taken))
 
 add-o : tie.Need-add-o Inv-loop μ-loop
 add-o c = let r = room (c .before .before) in omega arith
@@ -96,13 +98,12 @@ add-o c = let r = room (c .before .before) in omega arith
 loop-again : tie.Need-loop-again Inv-loop μ-loop
 loop-again c =
     let e = evened (c .before) in
-    let l = in-loop e in
+    let t = in-loop e in
     rw (count (e .before))
-    (row-next (l .before .loop .inv) (l .loop-test .taken) (even e) (there (c .before .before)) (l .before .before .before .pre .tables)
-    (sym (table (c .before)) ∙ not-false _ (c .if3 .left)))
+    (row-next (pre-of t) (t .before .loop .inv) (t .loop-test .taken) (even e) (there (c .before .before)) _ (table (c .before)) (not-false _ (c .if3 .left)))
 
 returns-4 : tie.Need-returns-4 Inv-loop μ-loop
-returns-4 c = rows-end (c .before .loop .inv) (omega arith)
+returns-4 c = all-passed (rowOk _ _) _ (omega arith) (c .before .loop .inv .same)
 
 pub check-rows-spec : {M : Type 1} → statement M
 check-rows-spec =

@@ -41,7 +41,7 @@ next c =
     (c .used-bit .ensures ∙ ap (bit 1) (c .before .word .ensures))
 
 add-used : tie.Need-add-used Inv-loop μ-loop
-add-used c = let b = next c in omega (arith, b .few, b .inside)
+add-used c = let b = next c in omega (arith, b .counts .few, b .inside)
 
 loop-again : tie.Need-loop-again Inv-loop μ-loop
 loop-again c = record { number = refl; buckets = next c }

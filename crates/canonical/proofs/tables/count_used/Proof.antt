@@ -1,41 +1,45 @@
 -- `canonical::tables::count_used` meets its contract. Assumes nothing.
 use borrow.Author.Needs.{needs}
 use native.Mathlib.Omega.{arith}
-use Prim.Native.Nat.{_+_, _-_}
+use Prim.Native.Nat.{ℕ, _+_, _-_, _≤_}
 use mathlib.Core.Path.{ap, _∙_}
+use mathlib.Core.List.{List}
 use Rattle.canonical.specs.steps.HiddenBuckets.{bit}
+use Rattle.canonical.specs.steps.InPlace.{linkAt}
 use Rattle.canonical.proofs.TableLoops.{Used, used-start, used-next, used-end}
 use Rattle.canonical.proofs.tables.count_used.Statement.{statement}
 use Rattle.canonical.proofs.tables.count_used.Tie as tie
 
+record Counting (img : List ℕ) (o n used k : ℕ) : Type 0 where
+  links : Used (linkAt img o) k used
+  inside : k ≤ n
+
 abbrev Inv-loop : tie.InvT-loop
-Inv-loop img o n used₀ k₀ used k = Used img o n k used
+Inv-loop img o n used₀ k₀ used k = Counting img o n used k
 
 abbrev μ-loop : tie.MeasureT-loop
 μ-loop img o n used₀ k₀ used k = n - k
 
 loop-holds : tie.Need-loop-holds Inv-loop μ-loop
-loop-holds c =
-    let a = c .before .args in
-    used-start (a .image .now) (a .o) (a .n)
+loop-holds c = record { links = used-start _; inside = omega arith }
 
--- the words up to this one
+-- the links up to this one
 next : (c : tie.After-used-bit Inv-loop μ-loop)
-    → let l = c .before .before .before .loop in
-    let a = c .before .before .before .before .before .args in
-    Used (a .image .now) (a .o) (a .n) (l .k + 1) (l .used + c .used-bit .result)
+    → let l = c .before .before .before in
+    let a = l .before .before .args in
+    Counting (a .image .now) (a .o) (a .n) (l .loop .used + c .used-bit .result) (l .loop .k + 1)
 next c =
-    used-next (c .before .before .before .loop .inv) (c .used-bit .result) (c .before .before .loop-test .taken)
-    (c .used-bit .ensures ∙ ap (bit 1) (c .before .word-or-zero .ensures))
+    let l = c .before .before in
+    record {
+      links = used-next (l .before .loop .inv .links) (c .used-bit .result) (c .used-bit .ensures ∙ ap (bit 1) (c .before .word-or-zero .ensures));
+      inside = omega (arith, l .loop-test .taken);
+    }
 
 add-used : tie.Need-add-used Inv-loop μ-loop
-add-used c = let u = next c in omega (arith, u .few, u .inside)
-
-loop-again : tie.Need-loop-again Inv-loop μ-loop
-loop-again c = next c
+add-used c = let u = next c in omega (arith, u .links .few, u .inside)
 
 returns : tie.Need-returns Inv-loop μ-loop
-returns c = used-end (c .before .loop .inv) (omega arith)
+returns c = let l = c .before .loop in used-end (l .inv .links) (omega (arith, l .inv .inside))
 
 pub count-used-spec : {M : Type 1} → statement M
 count-used-spec =
@@ -51,5 +55,5 @@ count-used-spec =
     add-used
     (λ c. search needs)
     (λ c. search needs)
-    loop-again
+    next
     returns)
