@@ -18,7 +18,7 @@ use Rattle.canonical.proofs.Cells as cells
 abbrev pub offsets : List Placed → List ℕ
 offsets ps = map (λ (p : Placed). p .at) ps
 
--- the link of an id after entries, x before them
+-- the back word of an id after entries, x before them
 abbrev after : ℕ → ℕ → List Placed → ℕ
 after i x ps = lastFrom x (placedOfId i ps)
 
@@ -49,22 +49,22 @@ module _ (l : ℕ → ℕ) where
   own-other : (i : ℕ) (p : Placed) (ps : List Placed) → (id p ≡ i → ⊥) → own i (p ∷ ps) ≡ own i ps
   own-other i p ps d = cells.own-other id (λ (p : Placed). p .at) l i p ps d
 
-  -- if an id's link is one of its entries' offsets, and none of them is larger, it is the last one
-  link-last : (i x a : ℕ) (ps : List Placed) → x < a → Rising a (offsets ps) → All (λ (p : Placed). p .at ≤ l (id p)) ps → x ≤ l i
+  -- if an id's back word is one of its entries' offsets, and none of them is larger, it is the last one
+  back-word-last : (i x a : ℕ) (ps : List Placed) → x < a → Rising a (offsets ps) → All (λ (p : Placed). p .at ≤ l (id p)) ps → x ≤ l i
       → own i ps ≡ bit (suc x) (l i) → after i x ps ≡ l i
   unfolding placedOfId filter lastFrom
-  link-last i x a [] h r s le e =
+  back-word-last i x a [] h r s le e =
       elim (decLe (suc x) (l i)) [
         | yes k ↦ absurd (omega (arith, bit-yes (suc x) (l i) k, cells.own-none id (λ (p : Placed). p .at) l i))
         | no k ↦ omega arith
       ]
-  link-last i x a (q ∷ ps) h r s le e =
+  back-word-last i x a (q ∷ ps) h r s le e =
       let first = r .0 in
       elim (ℕ-discrete (id q) i) [
         | yes z ↦
             let ahead : q .at ≤ l i = rw z at (s .0) in
-            after-own i x q ps z ∙ link-last i (q .at) (suc (q .at)) ps (omega arith) (r .1) (s .1) ahead (rest ahead (own-here i q ps z))
-        | no z ↦ after-other i x q ps z ∙ link-last i x (suc (q .at)) ps (omega arith) (r .1) (s .1) le (sym (own-other i q ps z) ∙ e)
+            after-own i x q ps z ∙ back-word-last i (q .at) (suc (q .at)) ps (omega arith) (r .1) (s .1) ahead (rest ahead (own-here i q ps z))
+        | no z ↦ after-other i x q ps z ∙ back-word-last i x (suc (q .at)) ps (omega arith) (r .1) (s .1) le (sym (own-other i q ps z) ∙ e)
       ]
     where
       rest : q .at ≤ l i → own i (q ∷ ps) ≡ cond (eqb (l i) (q .at)) 1 0 + own i ps → own i ps ≡ bit (suc (q .at)) (l i)
@@ -102,14 +102,14 @@ module _ (l : ℕ → ℕ) where
           ]
 
   module _ (n : ℕ) (ps : List Placed) (r : Rising 1 (offsets ps)) (ids : All (λ (p : Placed). id p < n) ps) where
-    pub matching-link : BackArrayMatches n l ps → (i : ℕ) → i < n → backWord ps i ≡ l i
+    pub matching-back-word : BackArrayMatches n l ps → (i : ℕ) → i < n → backWord ps i ≡ l i
     unfolding backWord
-    matching-link k i h =
-        link-last i 0 1 ps (omega arith) r (k .ahead) (omega arith) (cells.owned id (λ (p : Placed). p .at) l n ps r ids (k .used) i h)
+    matching-back-word k i h =
+        back-word-last i 0 1 ps (omega arith) r (k .ahead) (omega arith) (cells.owned id (λ (p : Placed). p .at) l n ps r ids (k .used) i h)
 
-    pub links-match : ((i : ℕ) → i < n → backWord ps i ≡ l i) → BackArrayMatches n l ps
+    pub back-words-match : ((i : ℕ) → i < n → backWord ps i ≡ l i) → BackArrayMatches n l ps
     unfolding backWord
-    links-match is = record {
+    back-words-match is = record {
       ahead =
           all-map (λ p s. s refl) ps (all-own (λ (i : ℕ) (p : Placed). id p ≡ i → p .at ≤ l i) id n ps ids (λ i h. owned i h .2));
       used =

@@ -28,13 +28,13 @@ use Rattle.image.specs.declared.Mode.{Mode}
 use Rattle.image.specs.declared.Mode.the-variants.{Twoway, Oneway}
 use Rattle.image.specs.Zero.{hasZero}
 use Rattle.canonical.specs.Canonical.{modeIn}
-use Rattle.canonical.specs.steps.HiddenBuckets.{selfLinks, Stands, TableMatches, BackArrayMatches}
-use Rattle.canonical.specs.steps.InPlace.{slotsAt, linkAt}
+use Rattle.canonical.specs.steps.HiddenBuckets.{ownBackWords, Stands, TableMatches, BackArrayMatches}
+use Rattle.canonical.specs.steps.InPlace.{slotsAt, backWordAt}
 use Rattle.canonical.specs.steps.Made.{Storable, Made}
 use Rattle.canonical.specs.steps.Checks.{endIn, entriesTo, rowCount, tablePlace, countsMatch, notBefore}
-use Rattle.canonical.specs.steps.Checks.{twoWay, entriesOk, linksCounted, Checked}
+use Rattle.canonical.specs.steps.Checks.{twoWay, entriesOk, backWordsCounted, Checked}
 use Rattle.canonical.proofs.InPlace.{InPlace}
-use Rattle.canonical.proofs.BackArray.{all-own, links-match}
+use Rattle.canonical.proofs.BackArray.{all-own, back-words-match}
 use Rattle.canonical.proofs.FilledTable.{filled-matches}
 use Rattle.canonical.proofs.ReadBack.{all-wordly, ids-of, flag-of-image}
 use Rattle.canonical.proofs.TableChecks.{table-checked, Row, row-checked, row-place, counts-checked, row-count, rows-before}
@@ -43,7 +43,7 @@ use Rattle.canonical.proofs.ImageInPlace.{image-in-place}
 use Rattle.canonical.proofs.RisingOffsets.{all-rise, table-rises}
 use Rattle.canonical.proofs.ChecksSuffice.{counts-are}
 
--- has a mode links?
+-- has a mode back words?
 abbrev isTwo : Mode → Bool
 isTwo Twoway = true
 isTwo Oneway = false
@@ -142,38 +142,38 @@ module _ (mode : Mode) (es : List Entry) (each : All Storable es) (fits : imageS
           let r = row t h in
           rw (row-place img (endIn img n) r (omega (arith, s .inside, r .number)), r .number) s
 
-  links-at : endIn img n + 16 * n ≡ entriesEnd es + 16 * length es
+  back-words-at : endIn img n + 16 * n ≡ entriesEnd es + 16 * length es
   unfolding n
-  links-at = omega (arith, ends)
+  back-words-at = omega (arith, ends)
 
-  -- the links of a two-way image
-  matched : mode ≡ Twoway → BackArrayMatches (backSizeAt img) (linkAt img (endIn img n + 16 * n)) ps
+  -- the back words of a two-way image
+  matched : mode ≡ Twoway → BackArrayMatches (backSizeAt img) (backWordAt img (endIn img n + 16 * n)) ps
   unfolding ps
   matched two =
       let back : backSizeAt img ≡ backSize es = ip .back-size ∙ ap (λ (f : Mode). backIn f (backSize es)) two in
-      rw links-at
-      (links-match (linkAt img (entriesEnd es + 16 * length es)) (backSizeAt img) ps (all-rise es)
+      rw back-words-at
+      (back-words-match (backWordAt img (entriesEnd es + 16 * length es)) (backSizeAt img) ps (all-rise es)
       (all-placed (λ (e : Entry). e .id < backSizeAt img) headSize es (ids-below es (backSizeAt img) (omega arith)))
-      (λ i h. ip .links i (omega (arith, ip .back-size))))
+      (λ i h. ip .back-words i (omega (arith, ip .back-size))))
 
-  -- what the checks of the links ask, in either mode
+  -- what the checks of the back words ask, in either mode
   abbrev Linked : Mode → Type 0
   Linked f =
-      All (λ (p : Placed). notBefore (isTwo f) (p .at) (linkAt img (endIn img n + 16 * n) (p .entry .id)) ≡ true) ps
-      × (cond (isTwo f) (linksCounted img (endIn img n + 16 * n) (backSizeAt img) ps) true ≡ true)
+      All (λ (p : Placed). notBefore (isTwo f) (p .at) (backWordAt img (endIn img n + 16 * n) (p .entry .id)) ≡ true) ps
+      × (cond (isTwo f) (backWordsCounted img (endIn img n + 16 * n) (backSizeAt img) ps) true ≡ true)
 
   linked : Linked mode
   linked = by-mode mode matched
     where
-      by-mode : (f : Mode) → (f ≡ Twoway → BackArrayMatches (backSizeAt img) (linkAt img (endIn img n + 16 * n)) ps) → Linked f
+      by-mode : (f : Mode) → (f ≡ Twoway → BackArrayMatches (backSizeAt img) (backWordAt img (endIn img n + 16 * n)) ps) → Linked f
       by-mode Twoway m =
-          (all-map (λ p h. ahead-checked (p .at) _ h) ps (m refl .ahead), eq-eqb _ (selfLinks (linkAt img (endIn img n + 16 * n)) ps) (m refl .used))
+          (all-map (λ p h. ahead-checked (p .at) _ h) ps (m refl .ahead), eq-eqb _ (ownBackWords (backWordAt img (endIn img n + 16 * n)) ps) (m refl .used))
       by-mode Oneway m = (all-map (λ p h. refl) ps names, refl)
 
   valid : entriesOk img (isTwo mode) (endIn img n + 16 * n) ps ≡ true
   valid =
       entries-checked img (isTwo mode) (endIn img n + 16 * n) ps
-      (all-map (λ p s. and-both (notBefore (isTwo mode) (p .at) (linkAt img (endIn img n + 16 * n) (p .entry .id))) _ (s .0)
+      (all-map (λ p s. and-both (notBefore (isTwo mode) (p .at) (backWordAt img (endIn img n + 16 * n) (p .entry .id))) _ (s .0)
       (and-both (not (hasZero (p .entry .name))) _ (s .1 .0) (s .1 .1))) ps
       (all-both _ (λ (p : Placed). Free p × InBucket img p) ps (linked .0) (all-both Free (InBucket img) ps names buckets)))
 
@@ -190,8 +190,9 @@ module _ (mode : Mode) (es : List Entry) (each : All Storable es) (fits : imageS
     backs =
         ip .back-size
         ∙ sym (ap₂ (λ (f : Mode) (l : List Entry). backIn f (backSize l)) flags entries-are);
-    links =
-        ap₂ (λ (two : Bool) (l : List Entry). cond two (linksCounted img (endIn img n + 16 * n) (backSizeAt img) (placed headSize l)) true) two-is entries-are
+    back-words =
+        ap₂ (λ (two : Bool) (l : List Entry). cond two (backWordsCounted img (endIn img n + 16 * n) (backSizeAt img) (placed headSize l)) true)
+        two-is entries-are
         ∙ linked .1;
   }
     where
@@ -205,7 +206,7 @@ module _ (mode : Mode) (es : List Entry) (each : All Storable es) (fits : imageS
     size = ip .size;
     flag = small mode (ip .flag);
     room = omega (arith, ip .total, ip .back-size);
-    back-offset = ip .back-offset ∙ sym (ap₂ (λ (b : ℕ) (o : ℕ). cond (eqb b 0) 0 o) (ip .back-size) links-at);
+    back-offset = ip .back-offset ∙ sym (ap₂ (λ (b : ℕ) (o : ℕ). cond (eqb b 0) 0 o) (ip .back-size) back-words-at);
     body = body-checked img n (endIn img n) (backSizeAt img) body;
   }
     where

@@ -28,13 +28,13 @@ use Rattle.writer.proofs.Agree.{zeros, tallied-count}
 use Rattle.image.specs.declared.Mode.{Mode}
 use Rattle.image.specs.declared.Mode.the-variants.{Twoway, Oneway}
 use Rattle.canonical.specs.Canonical.{modeIn}
-use Rattle.canonical.specs.steps.HiddenBuckets.{usedTo, selfLinks, Stands}
-use Rattle.canonical.specs.steps.InPlace.{slotsAt, linkAt}
+use Rattle.canonical.specs.steps.HiddenBuckets.{usedTo, ownBackWords, Stands}
+use Rattle.canonical.specs.steps.InPlace.{slotsAt, backWordAt}
 use Rattle.canonical.specs.steps.Made.{Made}
 use Rattle.canonical.specs.steps.Checks.{endIn, entriesTo, rowCount, tablePlace, notBefore}
-use Rattle.canonical.specs.steps.Checks.{twoWay, entryOk, linksCounted, Checked}
+use Rattle.canonical.specs.steps.Checks.{twoWay, entryOk, backWordsCounted, Checked}
 use Rattle.canonical.proofs.InPlace.{InPlace}
-use Rattle.canonical.proofs.BackArray.{matching-link}
+use Rattle.canonical.proofs.BackArray.{matching-back-word}
 use Rattle.canonical.proofs.FilledTable.{matching-filled}
 use Rattle.canonical.proofs.RisingOffsets.{all-rise, table-rises}
 use Rattle.canonical.proofs.ReadBack.{storables}
@@ -87,8 +87,8 @@ module _ (img : List ℕ) (n : ℕ) (bytes : AllBytes img) (c : Checked img n) w
   unfolding es mode
   backs = b .backs
 
-  links-at : endIn img n + 16 * n ≡ entriesEnd es + 16 * length es
-  links-at = omega (arith, ends, number)
+  back-words-at : endIn img n + 16 * n ≡ entriesEnd es + 16 * length es
+  back-words-at = omega (arith, ends, number)
 
   total : length img ≡ imageSize mode es
   total = omega (arith, ends, number, backs, c .room)
@@ -103,7 +103,7 @@ module _ (img : List ℕ) (n : ℕ) (bytes : AllBytes img) (c : Checked img n) w
 
   back-offset : backOffsetAt img ≡ backOffset mode es
   unfolding backOffset
-  back-offset = c .back-offset ∙ ap₂ (λ (b : ℕ) (o : ℕ). cond (eqb b 0) 0 o) backs links-at
+  back-offset = c .back-offset ∙ ap₂ (λ (b : ℕ) (o : ℕ). cond (eqb b 0) 0 o) backs back-words-at
 
   entries-there : At img headSize (cat entryBytes es)
   entries-there = record {
@@ -133,7 +133,7 @@ module _ (img : List ℕ) (n : ℕ) (bytes : AllBytes img) (c : Checked img n) w
   unfolding tableOffset place
   offset t h = row t h .offset ∙ ap₂ (λ (k o : ℕ). cond (eqb k 0) 0 o) (row-count img ps numbers t h) (place-is t h)
 
-  -- ---- entries in tables and links
+  -- ---- entries in tables and back words
 
   abbrev Ok : Placed → Type 0
   Ok p = entryOk img (twoWay img) (endIn img n + 16 * n) p ≡ true
@@ -144,7 +144,7 @@ module _ (img : List ℕ) (n : ℕ) (bytes : AllBytes img) (c : Checked img n) w
 
   names : All (λ (p : Placed). Free p × InBucket img p) ps
   names =
-      all-map (λ p ok. let name = and-second (notBefore (twoWay img) (p .at) (linkAt img (endIn img n + 16 * n) (p .entry .id))) _ ok in
+      all-map (λ p ok. let name = and-second (notBefore (twoWay img) (p .at) (backWordAt img (endIn img n + 16 * n) (p .entry .id))) _ ok in
       let free = not (hasZero (p .entry .name)) in (and-first free _ name, and-second free _ name)) ps checks
 
   table : (t : ℕ) → t < 256 → Filled (2 * count t ps) (slotsAt img (place t)) (map bucketOf (ofTable t ps))
@@ -164,24 +164,24 @@ module _ (img : List ℕ) (n : ℕ) (bytes : AllBytes img) (c : Checked img n) w
           let d = rw e at (bucket-facts img (bucketOf p) (r .1)) in
           rw (row-place img (endIn img n) (row t h) (omega (arith, d .inside)) ∙ place-is t h, numbers t h) at d
 
-  links : (i : ℕ) → i < backSizeOf mode es → backWord (placed headSize es) i ≡ linkAt img (entriesEnd es + 16 * length es) i
+  back-words : (i : ℕ) → i < backSizeOf mode es → backWord (placed headSize es) i ≡ backWordAt img (entriesEnd es + 16 * length es) i
   unfolding mode es ps
-  links i h = rw links-at at (by-mode (twoWay img) (b .backs) checks (b .links) h)
+  back-words i h = rw back-words-at at (by-mode (twoWay img) (b .backs) checks (b .back-words) h)
     where
       o : ℕ
       o = endIn img n + 16 * n
 
       by-mode : (two : Bool) → backSizeAt img ≡ backIn (cond two Twoway Oneway) (backSize es)
           → All (λ (p : Placed). entryOk img two o p ≡ true) (placed headSize es)
-          → cond two (linksCounted img o (backSizeAt img) (placed headSize es)) true ≡ true
-          → i < backIn (cond two Twoway Oneway) (backSize es) → backWord (placed headSize es) i ≡ linkAt img o i
+          → cond two (backWordsCounted img o (backSizeAt img) (placed headSize es)) true ≡ true
+          → i < backIn (cond two Twoway Oneway) (backSize es) → backWord (placed headSize es) i ≡ backWordAt img o i
       by-mode false e a k l = absurd (omega arith)
       by-mode true e a k l =
-          matching-link (linkAt img o) (backSizeAt img) (placed headSize es) (all-rise es)
+          matching-back-word (backWordAt img o) (backSizeAt img) (placed headSize es) (all-rise es)
           (all-placed (λ (x : Entry). x .id < backSizeAt img) headSize es (ids-below es (backSizeAt img) (omega arith)))
           record {
-            ahead = all-map (λ p ok. ahead-facts (p .at) _ (and-first (notBefore true (p .at) (linkAt img o (p .entry .id))) _ ok)) (placed headSize es) a;
-            used = eqb-true (usedTo (linkAt img o) (backSizeAt img)) (selfLinks (linkAt img o) (placed headSize es)) k;
+            ahead = all-map (λ p ok. ahead-facts (p .at) _ (and-first (notBefore true (p .at) (backWordAt img o (p .entry .id))) _ ok)) (placed headSize es) a;
+            used = eqb-true (usedTo (backWordAt img o) (backSizeAt img)) (ownBackWords (backWordAt img o) (placed headSize es)) k;
           }
           i (omega arith)
 
@@ -198,7 +198,7 @@ module _ (img : List ℕ) (n : ℕ) (bytes : AllBytes img) (c : Checked img n) w
     rows = λ t h. (offset t h, numbers t h);
     entries = entries-there;
     tables = table;
-    links = links;
+    back-words = back-words;
   }
 
   pub checked-made : Made img

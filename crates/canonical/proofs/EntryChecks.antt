@@ -1,4 +1,4 @@
--- What the checks of entries and links say, and all of those behind the head. Assumes nothing.
+-- What the checks of entries and back words say, and all of those behind the head. Assumes nothing.
 use Prim.Native.Nat.{ℕ, _+_, _*_, _/_, _≤_}
 use native.Mathlib.Omega.{arith}
 use native.Mathlib.Nat.{mod-lt}
@@ -24,7 +24,7 @@ use Rattle.canonical.specs.steps.HiddenBuckets.{putBucket, Stands}
 use Rattle.canonical.specs.steps.InPlace.{slotsAt}
 use Rattle.canonical.specs.Canonical.{modeIn}
 use Rattle.canonical.specs.steps.Checks.{inItsBucket, entryOk, entriesOk, notBefore, entriesTo, placedFrom, rowsOk, countsMatch, twoWay, entriesValid}
-use Rattle.canonical.specs.steps.Checks.{linksCounted, bodyOk}
+use Rattle.canonical.specs.steps.Checks.{backWordsCounted, bodyOk}
 use Rattle.canonical.proofs.TableChecks.{and3-facts}
 
 -- ---- an entry in its table, as it is read
@@ -94,7 +94,7 @@ to-table P t (p ∷ ps) a = with-first (inTable t p) refl (to-table P t ps (a .1
     with-first true e rest = ((a .0, eqb-true (tableOf (hashOf (p .entry .name))) t e), rest)
     with-first false e rest = rest
 
--- ---- links
+-- ---- back words
 
 pub ahead-facts : (at w : ℕ) → notBefore true at w ≡ true → at ≤ w
 ahead-facts at w h = ltb-false w at (not-true (ltb w at) h)
@@ -110,7 +110,7 @@ pub record Body (img : List ℕ) (n end back : ℕ) : Type 0 where
   pub entries : entriesOk img (twoWay img) (end + 16 * n) (placedFrom img end n headSize) ≡ true
   pub counts : countsMatch img (tallied (replicate 256 0) (entriesTo img end n)) ≡ true
   pub backs : back ≡ backIn (modeIn img) (backSize (entriesTo img end n))
-  pub links : cond (twoWay img) (linksCounted img (end + 16 * n) back (placedFrom img end n headSize)) true ≡ true
+  pub back-words : cond (twoWay img) (backWordsCounted img (end + 16 * n) back (placedFrom img end n headSize)) true ≡ true
 
 pub body-facts : (img : List ℕ) (n end back : ℕ) → bodyOk img n end back ≡ true → Body img n end back
 unfolding bodyOk
@@ -118,7 +118,7 @@ body-facts img n end back h =
     let valid = entriesValid img end n (twoWay img) (end + 16 * n) in
     let counted = countsMatch img (tallied (replicate 256 0) (entriesTo img end n)) in
     let backs : ℕ = backIn (modeIn img) (backSize (entriesTo img end n)) in
-    let (first, back-is, links) = and3-facts (rowsOk img end && valid && counted) (eqb back backs) _ h in
+    let (first, back-is, back-words) = and3-facts (rowsOk img end && valid && counted) (eqb back backs) _ h in
     let (rows, entries, counts) = and3-facts (rowsOk img end) valid counted first in
     let wholes = whole n (between img headSize end) in
     record {
@@ -127,10 +127,10 @@ body-facts img n end back h =
       entries = and-second wholes _ entries;
       counts = counts;
       backs = eqb-true back backs back-is;
-      links = links;
+      back-words = back-words;
     }
 
 pub body-checked : (img : List ℕ) (n end back : ℕ) → Body img n end back → bodyOk img n end back ≡ true
 unfolding bodyOk
 body-checked img n end back t =
-    rw (t .rows, t .wholes, t .entries, t .counts, eq-eqb back (backIn (modeIn img) (backSize (entriesTo img end n))) (t .backs)) (t .links)
+    rw (t .rows, t .wholes, t .entries, t .counts, eq-eqb back (backIn (modeIn img) (backSize (entriesTo img end n))) (t .backs)) (t .back-words)

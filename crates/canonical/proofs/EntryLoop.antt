@@ -16,15 +16,15 @@ use Rattle.image.proofs.Between.{Front, front, EntryRoom, entry-room}
 use Rattle.image.proofs.Bools.{false-not-true}
 use Rattle.image.proofs.EntryWalk.{Rest, first-id, first-name, entries-rest, walk-start, walk-step, walk-broken, walk-end}
 use Rattle.canonical.specs.steps.Checks.{entryName, nameOk, notBefore, entriesOk, entriesValid, placedFrom}
-use Rattle.canonical.specs.steps.HiddenBuckets.{inCells, selfLinks}
-use Rattle.canonical.specs.steps.InPlace.{linkAt}
+use Rattle.canonical.specs.steps.HiddenBuckets.{inCells, ownBackWords}
+use Rattle.canonical.specs.steps.InPlace.{backWordAt}
 use Rattle.canonical.specs.steps.Contracts.{OneIf, CheckEntriesPre, EntriesFound}
 
 -- what the entries from `at` on add to what was found before them is the whole
 pub record Entering (img : List ℕ) (end entries : ℕ) (two : Bool) (o : ℕ) (counts₀ : List ℕ) (at left back linked : ℕ) (counts : List ℕ) : Type 0 where
   pub rest : Rest img end entries counts₀ at left back counts
   pub valid-same : entriesOk img two o (placedFrom img end left at) ≡ entriesOk img two o (placedFrom img end entries 2072)
-  pub linked-same : linked + selfLinks (linkAt img o) (placedFrom img end left at) ≡ selfLinks (linkAt img o) (placedFrom img end entries 2072)
+  pub linked-same : linked + ownBackWords (backWordAt img o) (placedFrom img end left at) ≡ ownBackWords (backWordAt img o) (placedFrom img end entries 2072)
   pub few : linked + left ≤ entries
 
 not-valid : {img : List ℕ} {end entries : ℕ} {two : Bool} {o : ℕ} {counts₀ counts : List ℕ} → false ≡ entriesValid img end entries two o
@@ -51,7 +51,7 @@ pub record EntryRead (img : List ℕ) (end : ℕ) (two : Bool) (o at n h id w : 
   pub whole : n ≡ 0 → ⊥
   pub hash-is : h ≡ hashOf (entryName img at n)
   pub id-is : id ≡ word img at
-  pub link-is : w ≡ word img (o + 4 * id)
+  pub back-word-is : w ≡ word img (o + 4 * id)
   pub linked-is : linked ≡ notBefore two at w
   pub named-is : named ≡ nameOk img at (entryName img at n)
 
@@ -91,16 +91,16 @@ module _ {img : List ℕ} {end entries : ℕ} {two : Bool} {o : ℕ} {counts₀ 
         ∙ ap (placed at) (entries-rest img at end n (left - 1) (e .rest .inside) k there)
         ∙ ap (λ (j : ℕ). record { entry = firstEntry (between img at end); at = at } ∷ placed (at + j) rest) size-is
 
-    link-is : word img (o + 4 * firstEntry (between img at end) .id) ≡ w
-    link-is =
+    back-word-is : word img (o + 4 * firstEntry (between img at end) .id) ≡ w
+    back-word-is =
         ap (λ (i : ℕ). word img (o + 4 * i)) (first-id img at end n (left - 1) (e .rest .inside) k there ∙ sym (r .id-is))
-        ∙ sym (r .link-is)
+        ∙ sym (r .back-word-is)
 
     entries-step : entriesOk img two o (placedFrom img end left at) ≡ (p && q && entriesOk img two o later)
     unfolding entriesOk
     entries-step =
         ap (entriesOk img two o) step
-        ∙ ap₂ (λ (v : ℕ) (name : List ℕ). notBefore two at v && nameOk img at name && entriesOk img two o later) link-is name-is
+        ∙ ap₂ (λ (v : ℕ) (name : List ℕ). notBefore two at v && nameOk img at name && entriesOk img two o later) back-word-is name-is
         ∙ ap₂ (λ (x y : Bool). x && y && entriesOk img two o later) (sym (r .linked-is)) (sym (r .named-is))
 
     pub entering-wrong : (p && q) ≡ false → {counts₁ : List ℕ}
@@ -120,8 +120,8 @@ module _ {img : List ℕ} {end entries : ℕ} {two : Bool} {o : ℕ} {counts₀ 
           (r .id-is) ec;
       valid-same = sym (entries-step ∙ ap (λ (b : Bool). b && entriesOk img two o later) y) ∙ e .valid-same;
       linked-same =
-          let t : selfLinks (linkAt img o) (placedFrom img end left at) ≡ cond (eqb w at) 1 0 + selfLinks (linkAt img o) later =
-          ap (selfLinks (linkAt img o)) step ∙ ap (λ (v : ℕ). cond (eqb v at) 1 0 + selfLinks (linkAt img o) later) link-is in
+          let t : ownBackWords (backWordAt img o) (placedFrom img end left at) ≡ cond (eqb w at) 1 0 + ownBackWords (backWordAt img o) later =
+          ap (ownBackWords (backWordAt img o)) step ∙ ap (λ (v : ℕ). cond (eqb v at) 1 0 + ownBackWords (backWordAt img o) later) back-word-is in
           omega (arith, one .is, e .linked-same);
       few = omega (arith, one .most, e .few);
     }
@@ -133,7 +133,7 @@ unfolding entriesOk inCells placed entriesIn
 entering-end {img} {end} {entries} {two} {o} {counts₀} {at} {back} {linked} {counts} e k =
     let w = walk-end img end entries counts₀ at back counts k (e .rest) in
     let all : true ≡ entriesOk img two o (placedFrom img end entries 2072) = e .valid-same in
-    let links : linked + 0 ≡ selfLinks (linkAt img o) (placedFrom img end entries 2072) = e .linked-same in
+    let back-words : linked + 0 ≡ ownBackWords (backWordAt img o) (placedFrom img end entries 2072) = e .linked-same in
     record {
       valid = w .0 ∙ sym (and-true (whole entries (between img 2072 end))) ∙ ap (λ (b : Bool). whole entries (between img 2072 end) && b) all;
       back = λ y. w .1;

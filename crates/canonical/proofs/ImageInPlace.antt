@@ -21,7 +21,7 @@ use Rattle.image.specs.declared.Mode.{Mode}
 use Rattle.canonical.specs.steps.InPlace.{slotsAt}
 use Rattle.canonical.proofs.InPlace.{InPlace}
 
--- every link is a word
+-- every back word is a word
 last-below : (img : List ℕ) → length img ≤ 4294967295 → (o : ℕ) (ps : List Placed) → o < 2 ^ 32 → All (EntryAt img) ps → lastFrom o ps < 2 ^ 32
 unfolding lastFrom
 last-below img small o [] h a = h
@@ -31,9 +31,9 @@ module _ (mode : Mode) (es : List Entry) (fits : imageSize mode es ≤ 429496729
   ps : List Placed
   ps = placed headSize es
 
-  link-below : (i : ℕ) → backWord (placed headSize es) i < 2 ^ 32
+  back-word-below : (i : ℕ) → backWord (placed headSize es) i < 2 ^ 32
   unfolding backWord placedOfId
-  link-below i =
+  back-word-below i =
       last-below (image mode es) (omega (arith, length-image mode es)) 0 (placedOfId i (placed headSize es)) (omega arith)
       (all-filter (EntryAt (image mode es)) (λ (p : Placed). hasId i (p .entry)) (placed headSize es) (all-entries-at mode es))
 
@@ -73,5 +73,5 @@ module _ (mode : Mode) (es : List Entry) (fits : imageSize mode es ≤ 429496729
     rows = λ t h. (tableAt-image mode es fits t h, bucketNumber-image mode es fits t h);
     entries = entries-at mode es;
     tables = table-filled;
-    links = λ i h. sym (at-word (backWord (placed headSize es) i) (backWord-at mode es fits i h) (link-below i));
+    back-words = λ i h. sym (at-word (backWord (placed headSize es) i) (backWord-at mode es fits i h) (back-word-below i));
   }

@@ -12,7 +12,7 @@ use Rattle.image.specs.Tables.{Filled}
 use Rattle.image.specs.declared.Mode.{Mode}
 use Rattle.image.proofs.At.{At}
 use Rattle.reader.specs.Open.{hasLetters}
-use Rattle.canonical.specs.steps.InPlace.{slotsAt, linkAt}
+use Rattle.canonical.specs.steps.InPlace.{slotsAt, backWordAt}
 
 pub record InPlace (img : List ℕ) (mode : Mode) (es : List Entry) : Type 0 where
   pub letters : hasLetters img ≡ true
@@ -28,4 +28,4 @@ pub record InPlace (img : List ℕ) (mode : Mode) (es : List Entry) : Type 0 whe
   pub tables : (t : ℕ) → t < 256
       → Filled (2 * count t (placed headSize es)) (slotsAt img (entriesEnd es + 16 * entriesBefore t (placed headSize es)))
       (map bucketOf (ofTable t (placed headSize es)))
-  pub links : (i : ℕ) → i < backSizeOf mode es → backWord (placed headSize es) i ≡ linkAt img (entriesEnd es + 16 * length es) i
+  pub back-words : (i : ℕ) → i < backSizeOf mode es → backWord (placed headSize es) i ≡ backWordAt img (entriesEnd es + 16 * length es) i

@@ -89,18 +89,18 @@ module _ (img : List ℕ) (mode : Mode) (es : List Entry) (bytes : AllBytes img)
       let z : entriesEnd es + 16 * 0 ≡ entriesEnd es = omega arith in
       at-same z (at-cat (tableBytes ps) start-of (λ t. omega (arith, length-tableBytes ps t)) 0 256 (λ i h. one-table (0 + i) (omega arith)))
 
-  all-links : At img (entriesEnd es + 16 * length es) (backWords ps (backSizeOf mode es))
+  all-back-words : At img (entriesEnd es + 16 * length es) (backWords ps (backSizeOf mode es))
   unfolding backWords ps
-  all-links =
+  all-back-words =
       at-run (λ (i : ℕ). le32 (backWord ps i)) 4 (entriesEnd es + 16 * length es) (backSizeOf mode es) (λ i. length-le32 (backWord ps i))
-      (λ i h. at-le32 img (entriesEnd es + 16 * length es + 4 * i) (backWord ps i) bytes (omega (arith, long)) (sym (ip .links i h)))
+      (λ i h. at-le32 img (entriesEnd es + 16 * length es + 4 * i) (backWord ps i) bytes (omega (arith, long)) (sym (ip .back-words i h)))
 
   -- the parts, one after the other
   pub in-place-image : image mode es ≡ img
   unfolding image ps
   in-place-image =
       at-all img (image mode es)
-      (at-join (at-join (at-join (at-join head to-rows rows) to-entries (ip .entries)) to-tables all-tables) to-links all-links)
+      (at-join (at-join (at-join (at-join head to-rows rows) to-entries (ip .entries)) to-tables all-tables) to-back-words all-back-words)
       (ip .total ∙ sym (length-image mode es))
     where
       H : List ℕ
@@ -115,5 +115,5 @@ module _ (img : List ℕ) (mode : Mode) (es : List Entry) (bytes : AllBytes img)
       to-tables : 0 + length (H ++ cat entryBytes es) ≡ entriesEnd es
       to-tables = omega (arith, to-entries, length-append H (cat entryBytes es), length-entries es)
 
-      to-links : 0 + length (H ++ cat entryBytes es ++ tables ps) ≡ entriesEnd es + 16 * length es
-      to-links = omega (arith, to-tables, length-append (H ++ cat entryBytes es) (tables ps), length-tables ps, many)
+      to-back-words : 0 + length (H ++ cat entryBytes es ++ tables ps) ≡ entriesEnd es + 16 * length es
+      to-back-words = omega (arith, to-tables, length-append (H ++ cat entryBytes es) (tables ps), length-tables ps, many)

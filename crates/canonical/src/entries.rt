@@ -1,7 +1,7 @@
 // One walk over the entries. Each is whole, its name has no zero byte, it is in the bucket that its put took, and in
-// a two-way image its id's link, the word in the back array, is not below its offset. A put took the first bucket of
-// its probe sequence that was empty then. Offsets rise in put order, so in the finished table that bucket is the first
-// that is empty or has an offset at or after the entry's own.
+// a two-way image its id's back word, the word in the back array, is not below its offset. A put took the first bucket
+// of its probe sequence that was empty then. Offsets rise in put order, so in the finished table that bucket is the
+// first that is empty or has an offset at or after the entry's own.
 ghost use mathlib.Core.Path.{_≡_};
 ghost use Rattle.canonical.specs.steps.Checks.{TablesHeld, inItsBucket, entryName, nameOk, notBefore};
 ghost use Rattle.canonical.specs.steps.Contracts.{CheckEntryPre, OneIf, CheckEntriesPre, EntriesFound};
@@ -48,7 +48,7 @@ fn check_entry(image: &[u8], at: usize, n: usize, h: u32) -> bool
     in_its_bucket(image, h, at as u32)
 }
 
-// Is the link w not below the entry's offset `at`? A one-way image has no links.
+// Is the back word w not below the entry's offset `at`? A one-way image has no back words.
 fn not_before(two: bool, at: usize, w: u32) -> bool
     ensures { λ r. ⌜ r ≡ notBefore two at w ⌝ }
 {
@@ -62,7 +62,8 @@ fn one_if_equal(w: u32, at: usize) -> u64
     if w as usize == at { 1 } else { 0 }
 }
 
-// What the walk found: whether the entries are valid, their back size, and how many of them their id's link points to.
+// What the walk found: whether the entries are valid, their back size, and how many of them their id's back word points
+// to.
 pub struct EntriesChecked {
     pub valid: bool,
     pub back: u64,

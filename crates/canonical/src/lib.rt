@@ -23,7 +23,7 @@ use tables::count_used;
 use tables::counts_match;
 use tables::offset_or_zero;
 
-mod entries; // entries.rt: one walk over the entries, each compared with its bucket and its link
+mod entries; // entries.rt: one walk over the entries, each compared with its bucket and its back word
 mod tables; // tables.rt: the rows of the head, and the tables
 
 // The back size that an image has by its mode, if that of its entries is `back`.
@@ -34,8 +34,8 @@ fn back_for(two: bool, back: u64) -> u64
 }
 
 // Is all behind the head valid, if the entries end at `end`? The rows come first: a table is read only if its row has
-// the right offset, so that no byte is read as part of two tables. Each link is the offset of its id's last entry: no
-// entry is behind its id's link, and as many links are not 0 as entries have a link that points to them.
+// the right offset, so that no byte is read as part of two tables. Each back word is the offset of its id's last entry:
+// no entry is behind its id's back word, and as many back words are not 0 as entries have one that points to them.
 fn check_body(image: &[u8], n: u32, end: usize, back: usize) -> bool
     requires { ⌜ CheckBodyPre (now image) end back ⌝ }
     ensures { λ r. ⌜ r ≡ bodyOk (now (image .entry)) n end back ⌝ }
@@ -63,7 +63,7 @@ fn check_body(image: &[u8], n: u32, end: usize, back: usize) -> bool
 }
 
 // Is an image that opens, with n entries, canonical? Its size says where the entries end: 16 bytes of tables for each
-// entry and 4 for each link are behind them.
+// entry and 4 for each back word are behind them.
 fn check_opened(image: &[u8], n: u32) -> bool
     requires { ⌜ opening (now image) ≡ value n ⌝ }
     ensures { λ r. ⌜ r ≡ canonical (now (image .entry)) ⌝ }

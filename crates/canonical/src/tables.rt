@@ -7,7 +7,7 @@ ghost use lib.ListN.{length};
 ghost use Rattle.image.specs.Bytes.{word};
 ghost use Rattle.image.specs.steps.Contracts.{SizeRead};
 ghost use Rattle.canonical.specs.steps.HiddenBuckets.{bit, usedTo};
-ghost use Rattle.canonical.specs.steps.InPlace.{linkAt};
+ghost use Rattle.canonical.specs.steps.InPlace.{backWordAt};
 ghost use Rattle.canonical.specs.steps.Checks.{tableOk, rowsOk, countsMatch};
 ghost use Rattle.canonical.specs.steps.Contracts.{CheckTablePre, CheckRowsPre, WordsPre};
 use image::head::BUCKET_NUMBERS_AT;
@@ -124,7 +124,7 @@ pub(super) fn counts_match(image: &[u8], counts: &[u32; 256]) -> bool
 // How many of the n words at o are not 0.
 pub(super) fn count_used(image: &[u8], o: usize, n: usize) -> usize
     requires { ⌜ WordsPre o n ⌝ }
-    ensures { λ r. ⌜ r ≡ usedTo (linkAt (now (image .entry)) o) n ⌝ }
+    ensures { λ r. ⌜ r ≡ usedTo (backWordAt (now (image .entry)) o) n ⌝ }
 {
     let mut used: usize = 0;
     let mut k: usize = 0;

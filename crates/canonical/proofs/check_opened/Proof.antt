@@ -76,7 +76,8 @@ returns-5 c =
     let back = b .size-or-zero2 .result in
     let same = b .before .before .before .if1 .left in
     decided (s .args .image .now) n (bytes f) (s .pre) (f .size-or-zero .result - (16 * n + 4 * back)) back (sym (f .size-or-zero .ensures .is) ∙ same)
-    (omega (arith, b .before .before .word-or-zero .ensures, b .before .if2 .left)) (b .size-or-zero2 .ensures .is) (omega (arith, o .before .before .if3 .left))
+    (omega (arith, b .before .before .word-or-zero .ensures, b .before .if2 .left)) (b .size-or-zero2 .ensures .is)
+    (omega (arith, o .before .before .if3 .left))
     (ap (λ (l : ℕ). l - (16 * n + 4 * back)) same) (sym (o .before .size-or-zero3 .ensures .is) ∙ c .before .if4 .left ∙ o .offset-or-zero .ensures)
     (c .check-body .result)
     (c .check-body .ensures)

@@ -62,8 +62,8 @@ pub record HeadOnly : Type 0 where
   pub answer : Bool
 
 abbrev headOnly : ℕ → ℕ → ℕ → ℕ → Bool → HeadOnly
-headOnly size flag back links answer =
-    record { bytes = headBytes size flag back links ++ replicate 2048 0; answer = answer }
+headOnly size flag back back-words answer =
+    record { bytes = headBytes size flag back back-words ++ replicate 2048 0; answer = answer }
 
 abbrev pub headOnlyRows : List HeadOnly
 headOnlyRows =

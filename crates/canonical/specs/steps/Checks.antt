@@ -17,9 +17,9 @@ use Rattle.image.specs.Tally.{tallied}
 use Rattle.image.specs.Zero.{hasZero}
 use Rattle.image.specs.steps.Contracts.{offsetAt, firstEmptyBefore}
 use Rattle.reader.specs.Open.{opening}
-use Rattle.canonical.specs.steps.HiddenBuckets.{sumTo, usedTo, selfLinks}
+use Rattle.canonical.specs.steps.HiddenBuckets.{sumTo, usedTo, ownBackWords}
 use Rattle.canonical.specs.Canonical.{modeIn}
-use Rattle.canonical.specs.steps.InPlace.{linkAt}
+use Rattle.canonical.specs.steps.InPlace.{backWordAt}
 
 -- ---- the entries
 
@@ -103,12 +103,12 @@ nameOk img at name = not (hasZero name) && inItsBucket img (hashOf name) at
 abbrev pub twoWay : List ℕ → Bool
 twoWay img = eqb (word img 8) 0
 
--- the link w is not below the entry's offset `at`; a one-way image has no links
+-- the back word w is not below the entry's offset `at`; a one-way image has no back words
 abbrev pub notBefore : Bool → ℕ → ℕ → Bool
 notBefore two at w = not (two && ltb w at)
 
 abbrev pub entryOk : List ℕ → Bool → ℕ → Placed → Bool
-entryOk img two o p = notBefore two (p .at) (linkAt img o (p .entry .id)) && nameOk img (p .at) (p .entry .name)
+entryOk img two o p = notBefore two (p .at) (backWordAt img o (p .entry .id)) && nameOk img (p .at) (p .entry .name)
 
 unfoldable pub entriesOk : List ℕ → Bool → ℕ → List Placed → Bool
 entriesOk img two o [] = true
@@ -119,20 +119,20 @@ abbrev pub entriesValid : List ℕ → ℕ → ℕ → Bool → ℕ → Bool
 entriesValid img end n two o =
     whole n (between img headSize end) && entriesOk img two o (placedFrom img end n headSize)
 
--- as many of the n links are above 0 as entries have their own offset in their id's link
-abbrev pub linksCounted : List ℕ → ℕ → ℕ → List Placed → Bool
-linksCounted img o n ps = eqb (usedTo (linkAt img o) n) (selfLinks (linkAt img o) ps)
+-- as many of the n back words are above 0 as entries have their own offset in their id's back word
+abbrev pub backWordsCounted : List ℕ → ℕ → ℕ → List Placed → Bool
+backWordsCounted img o n ps = eqb (usedTo (backWordAt img o) n) (ownBackWords (backWordAt img o) ps)
 
 -- ---- all of them
 
--- behind the head: n entries that end at `end`, and `back` links
+-- behind the head: n entries that end at `end`, and `back` back words
 unfoldable pub bodyOk : List ℕ → ℕ → ℕ → ℕ → Bool
 bodyOk img n end back =
     rowsOk img end
     && entriesValid img end n (twoWay img) (end + 16 * n)
     && countsMatch img (tallied (replicate 256 0) (entriesTo img end n))
     && eqb back (backIn (modeIn img) (backSize (entriesTo img end n)))
-    && cond (twoWay img) (linksCounted img (end + 16 * n) back (placedFrom img end n headSize)) true
+    && cond (twoWay img) (backWordsCounted img (end + 16 * n) back (placedFrom img end n headSize)) true
 
 -- and the head; n is the number that opening answers
 pub record Checked (img : List ℕ) (n : ℕ) : Type 0 where

@@ -12,8 +12,8 @@ use Rattle.image.specs.steps.Contracts.{NameAtPre}
 use Rattle.reader.specs.Open.{opening}
 use Rattle.canonical.specs.Canonical.{counted, canonical}
 use Rattle.canonical.specs.declared.entries.EntriesChecked.{EntriesChecked}
-use Rattle.canonical.specs.steps.HiddenBuckets.{selfLinks}
-use Rattle.canonical.specs.steps.InPlace.{linkAt}
+use Rattle.canonical.specs.steps.HiddenBuckets.{ownBackWords}
+use Rattle.canonical.specs.steps.InPlace.{backWordAt}
 use Rattle.canonical.specs.steps.Checks.{entryName, entriesTo, placedFrom, entriesValid, TablesInside, TablesHeld}
 
 -- ---- words and tables
@@ -52,7 +52,7 @@ pub record OneIf (w at r : ℕ) : Type 0 where
 
 pub record CheckEntriesPre (img : List ℕ) (end o : ℕ) (counts : List ℕ) : Type 0 where
   pub area : Area img end
-  pub links : o < 2 ^ 48
+  pub back-words : o < 2 ^ 48
   pub tables : TablesHeld img
   pub zeros : (t : ℕ) → getD counts t 0 ≡ 0
 
@@ -60,7 +60,7 @@ pub record EntriesFound (img : List ℕ) (end entries : ℕ) (two : Bool) (o : �
     (r : EntriesChecked) : Type 0 where
   pub valid : r .valid ≡ entriesValid img end entries two o
   pub back : r .valid ≡ true → r .back ≡ backSize (entriesTo img end entries)
-  pub linked : r .valid ≡ true → r .linked ≡ selfLinks (linkAt img o) (placedFrom img end entries headSize)
+  pub linked : r .valid ≡ true → r .linked ≡ ownBackWords (backWordAt img o) (placedFrom img end entries headSize)
   pub by-table : r .valid ≡ true → counts ≡ tallied counts₀ (entriesTo img end entries)
 
 pub record CheckBodyPre (img : List ℕ) (end back : ℕ) : Type 0 where

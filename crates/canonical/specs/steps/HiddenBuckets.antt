@@ -1,4 +1,4 @@
--- When the buckets of a table or the links of a back array are those of some entries, decided without building them
+-- When the buckets of a table or the words of a back array are those of some entries, decided without building them
 -- again: 02 (ix). Offsets rise in put order, and an insertion moves nothing. So the table before a put is the finished
 -- one without the entries from that put on.
 use Prim.Native.Nat.{ℕ, zero, suc, _+_, _≤_, _<_}
@@ -55,13 +55,13 @@ pub record TableMatches (n : ℕ) (slots : ℕ → Bucket) (bs : List Bucket) : 
 
 -- ---- back arrays
 
--- how many entries have their own offset in their id's link
-abbrev pub selfLinks : (ℕ → ℕ) → List Placed → ℕ
-selfLinks links ps = inCells (λ (p : Placed). p .entry .id) (λ (p : Placed). p .at) links ps
+-- how many entries have their own offset in their id's back word
+abbrev pub ownBackWords : (ℕ → ℕ) → List Placed → ℕ
+ownBackWords back-words ps = inCells (λ (p : Placed). p .entry .id) (λ (p : Placed). p .at) back-words ps
 
--- n links that are those of these entries
-pub record BackArrayMatches (n : ℕ) (links : ℕ → ℕ) (ps : List Placed) : Type 0 where
-  -- the link of each entry's id is its offset or a later one
-  pub ahead : Each (λ (p : Placed). p .at ≤ links (p .entry .id)) ps
-  -- as many links are above 0 as entries have their own offset in their id's link
-  pub used : usedTo links n ≡ selfLinks links ps
+-- n back words that are those of these entries
+pub record BackArrayMatches (n : ℕ) (back-words : ℕ → ℕ) (ps : List Placed) : Type 0 where
+  -- the back word of each entry's id is its offset or a later one
+  pub ahead : Each (λ (p : Placed). p .at ≤ back-words (p .entry .id)) ps
+  -- as many back words are above 0 as entries have their own offset in their id's back word
+  pub used : usedTo back-words n ≡ ownBackWords back-words ps

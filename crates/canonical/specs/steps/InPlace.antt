@@ -1,4 +1,4 @@
--- Buckets and links of an image, read in place.
+-- Buckets and back words of an image, read in place.
 use Prim.Native.Nat.{ℕ, _+_, _*_}
 use mathlib.Core.List.{List}
 use Rattle.image.specs.Bytes.{word}
@@ -8,6 +8,6 @@ use Rattle.image.specs.Tables.{Bucket}
 abbrev pub slotsAt : List ℕ → ℕ → ℕ → Bucket
 slotsAt img o k = record { hash = word img (o + 8 * k); at = word img (o + 8 * k + 4) }
 
--- the link of id i in the back array at o
-abbrev pub linkAt : List ℕ → ℕ → ℕ → ℕ
-linkAt img o i = word img (o + 4 * i)
+-- the back word of id i in the back array at o
+abbrev pub backWordAt : List ℕ → ℕ → ℕ → ℕ
+backWordAt img o i = word img (o + 4 * i)

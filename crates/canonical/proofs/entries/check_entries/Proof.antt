@@ -77,7 +77,7 @@ read c =
       whole = e .if1 .left;
       hash-is = hash-is (hashed c);
       id-is = c .before .before .before .size-or-zero .ensures .is;
-      link-is = c .before .before .word-or-zero .ensures;
+      back-word-is = c .before .before .word-or-zero .ensures;
       linked-is = c .before .not-before .ensures;
       named-is = c .check-entry .ensures;
     }
