@@ -162,6 +162,7 @@ fn small(list: &List) -> Vec<Cost> {
         ("hash", "name of 1,024 bytes", one(|| archive::hash(black_box(&long), 0).hash)),
         ("begin", "call", one(|| archive::begin(0, 1, black_box(&mut counts), &buf).refusal)),
         ("index_words", "call", one(|| archive::index_words(black_box(4_096)))),
+        ("size_with", "call", one(|| archive::size_with(black_box(&record), 9, 7))),
         ("grown", "call", one(|| archive::grown(black_box(record), 200_000).refusal)),
         ("load", "load of 4,096 entries", load),
     ];

@@ -11,7 +11,7 @@ from typing import Any, Iterable, Iterator, List, Optional, Tuple, TypeVar, Unio
 from cqdb.changes import Change, changed
 from cqdb.check import Check, checked
 from cqdb.dates import Window, day, lent_windows
-from cqdb.entries import first_puts, id_at, name_at
+from cqdb.entries import entry_at, first_puts, name_of
 from cqdb.ids import Ids
 from cqdb.library import SHORT, calls, short_to_id
 from cqdb.memory import Image, Path, mapped
@@ -195,7 +195,8 @@ class Catalogue(Mapping[str, int]):
     def _pairs(self) -> Iterator[Tuple[str, int]]:
         image = self._lent()
         for offset in self._offsets(image):
-            yield self._text.decode(name_at(image, offset)), id_at(image, offset)
+            entry = entry_at(image, offset)
+            yield self._text.decode(name_of(image, entry)), entry.id
 
     def items(self) -> Items:
         """The names with their ids.
