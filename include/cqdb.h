@@ -45,6 +45,7 @@
      bundle_open                     image up to the one that is opened         2.5
      canonical                       entry                                       10        19       2
      close                           entry                                       11        16      39
+     entry                           call                                       1.9       2.1
      grown                           call                                       1.6
      hash                            name of 9 bytes                            3.5
      hash                            name of 1,024 bytes                        300
@@ -77,6 +78,8 @@
      sheet_read                      call                                       2.7
      sheet_write                     id                                         0.5
      size_hint                       call                                       1.6       1.6
+     size_with                       call                                       1.8
+     table                           call                                       1.6       1.4
      to_id                           name that is found                          10        23
      to_id                           name that is absent                        9.1        17
      to_str                          call                                       1.9       3.3
