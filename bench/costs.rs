@@ -62,7 +62,12 @@ pub struct List {
 
 impl List {
     fn new(n: usize) -> List {
-        let names = Names::new('p', LENGTH, 0..n).all().concat().into_bytes();
+        List::behind(0, n)
+    }
+
+    /// The names behind so many.
+    pub fn behind(first: usize, n: usize) -> List {
+        let names = Names::new('p', LENGTH, first..first + n).all().concat().into_bytes();
         let ends = (1..=n as u64).map(|i| LENGTH as u64 * i).collect();
         let ids = (0..n as u32).collect();
         let mut list = List { n, names, ends, ids, image: vec![] };

@@ -44,7 +44,7 @@
      bundle_count                    image                                      2.2
      bundle_open                     image up to the one that is opened         2.5
      canonical                       entry                                       10        19       2
-     close                           entry                                       11        16      39
+     close                           entry                                       16        16      39
      entry                           call                                       1.9       2.1
      grown                           call                                       1.6
      hash                            name of 9 bytes                            3.5
@@ -70,7 +70,7 @@
      preflight_first                 report of 512 ids                      886,046 2,720,283       2
      put, repeats off                earlier entry                              4.1       4.1       2
      put, repeats on                 call                                        20        20
-     put_indexed                     call                                        14        24
+     put_indexed                     call                                        20        24
      readings_agree                  id below the back size                     3.1       3.1
      references_first                pair and id of the round, at most          0.4
      round                           name that is found                          14        17      14
