@@ -52,11 +52,7 @@ impl MemoryWriter {
 const REPEATS_OFF: u32 = 0;
 const REPEATS_ON: u32 = 1;
 
-fn build<K: AsRef<[u8]>>(
-    flag: Flag,
-    repeats: u32,
-    list: impl IntoIterator<Item = (K, u32)>,
-) -> Result<Built, Refusal> {
+fn build<K: AsRef<[u8]>>(flag: Flag, repeats: u32, list: impl IntoIterator<Item = (K, u32)>) -> Result<Built, Refusal> {
     let (mut names, mut ends, mut ids) = (Vec::new(), Vec::new(), Vec::new());
     for (name, id) in list {
         names.extend_from_slice(name.as_ref());
@@ -70,7 +66,8 @@ fn build<K: AsRef<[u8]>>(
     let (mut refusals, mut work) = (vec![0; ids.len()], vec![0; needs.words as usize]);
     let answer = archive::build(flag.bits(), repeats, &mut image, joined, &mut refusals, &mut work);
     image.truncate(answer.size as usize);
-    let refused = refusals.iter().enumerate().filter_map(|(i, &k)| refusal::or(k, ()).err().map(|why| (i, why))).collect();
+    let refused =
+        refusals.iter().enumerate().filter_map(|(i, &k)| refusal::or(k, ()).err().map(|why| (i, why))).collect();
     refusal::or(answer.refusal, Built { image, accepted: answer.accepted, refused })
 }
 
@@ -89,6 +86,7 @@ fn needed(flag: Flag, list: Joined<'_>, repeats: u32) -> u64 {
         let fits = bytes(flag, <[u8]>::len(name), &[id]) <= LIMIT;
         !name.contains(&0) && fits && (held.insert(name) || repeats == REPEATS_ON)
     };
-    let ids: Vec<u32> = names.zip(list.ids).map(|(name, id)| if may_be_accepted(name, *id) { *id } else { 0 }).collect();
+    let ids: Vec<u32> =
+        names.zip(list.ids).map(|(name, id)| if may_be_accepted(name, *id) { *id } else { 0 }).collect();
     bytes(flag, list.names.len(), &ids)
 }

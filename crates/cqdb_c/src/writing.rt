@@ -189,7 +189,12 @@ pub extern "C" fn cqdb_grown_parts(numbers: &[u32; 4], sizes: &mut [u64; 2], lon
 
 // The finished size after a put of an id and a name of n bytes; the largest number where no image is as large.
 #[no_mangle]
-pub extern "C" fn cqdb_size_with_parts(numbers: &[u32; 4], sizes: &[u64; 2], n: usize, id: u32) -> u64
+pub extern "C" fn cqdb_size_with_parts(
+    numbers: &[u32; 4],
+    sizes: &[u64; 2],
+    n: usize,
+    id: u32,
+) -> u64
     ensures { λ r. ⌜ r ≡ sizeWith (recordIn (now (numbers .entry)) (now (sizes .entry))) n id ⌝ }
 {
     let w = record_in(numbers, sizes);

@@ -15,9 +15,7 @@ impl Kind {
     pub fn may_replace(self, bytes: &[u8]) -> bool {
         match self {
             _ if bytes.is_empty() => true,
-            Kind::Image => {
-                bytes.starts_with(LETTERS) && size_word(bytes).map_or(true, |size| size >= bytes.len())
-            }
+            Kind::Image => bytes.starts_with(LETTERS) && size_word(bytes).map_or(true, |size| size >= bytes.len()),
             Kind::Sheet => Sheet::read(bytes).is_ok(),
         }
     }
