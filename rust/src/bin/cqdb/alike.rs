@@ -74,10 +74,14 @@ fn seen(name: &[u8]) -> impl Iterator<Item = char> + '_ {
     letters::of(name).map(text_of).filter(|letter| is_seen(*letter) && !is_mark(*letter))
 }
 
-/// What names that look alike have in common: the letters that are seen, whatever their case. In upper case ß is SS.
+/// A letter whatever its case. In upper case ß is SS.
+fn caseless(letter: char) -> impl Iterator<Item = char> {
+    letter.to_lowercase().flat_map(char::to_uppercase).flat_map(char::to_lowercase)
+}
+
+/// What names that look alike have in common.
 fn folded(name: &[u8]) -> impl Iterator<Item = char> + '_ {
-    let lower = seen(name).flat_map(char::to_lowercase);
-    lower.flat_map(char::to_uppercase).flat_map(char::to_lowercase)
+    seen(name).flat_map(caseless)
 }
 
 /// The names that were put, each with its place among the puts.
@@ -125,11 +129,18 @@ impl Names {
         let mut hasher = self.hashes.build_hasher();
         // Some letters at once are hashed faster than each alone.
         let (mut part, mut filled) = ([0; 64], 0);
-        for letter in folded(name) {
+        let mut add = |letter: char| {
             filled += letter.encode_utf8(&mut part[filled..]).len();
             if filled > 60 {
                 hasher.write(&part[..filled]);
                 filled = 0;
+            }
+        };
+        // The same as over `folded`; most letters are ASCII.
+        for letter in seen(name) {
+            match letter.is_ascii() {
+                true => add(letter.to_ascii_lowercase()),
+                false => caseless(letter).for_each(&mut add),
             }
         }
         hasher.write(&part[..filled]);
