@@ -1,6 +1,6 @@
 // Writing: all puts and the close, names of 9 bytes, into a slice of exactly the image's size. Neither side clears its slice
-// between the repetitions. Single puts and close are measured over 64 lists of 4,096 names in turn: of one list again and again the
-// processor learns each branch. Then what the check of the 256 counts costs by itself.
+// between the repetitions. Single puts and close are measured over 64 lists of 4,096 names in turn. Then what the check of the 256
+// counts costs by itself.
 use crate::archive::{self, Joined, Record};
 use crate::names::Names;
 use crate::table::{self, best, least};
@@ -34,7 +34,7 @@ pub fn build_rust(names: &[&str], buf: &mut [u8]) {
 
 // The times for an entry, over so many lists of different names in turn.
 fn building(n: usize, lists: usize, repetitions: usize) -> (f64, f64) {
-    let lists: Vec<Names> = (0..lists).map(|list| Names::new('p', 9, list * n..(list + 1) * n)).collect();
+    let lists = Names::lists(n, lists);
     let lists: Vec<Vec<&str>> = lists.iter().map(Names::all).collect();
     let size = image_size(n, 9);
     let (mut a, mut b) = (vec![0u8; size], vec![0u8; size]);

@@ -80,7 +80,9 @@ impl MemoryWriter {
         let buffer = vec![0; FIRST];
         let mut counts = [0; 256];
         let begun = archive::begin(flag.bits(), repeats, &mut counts, &buffer);
-        assert_eq!(begun.refusal, 0, "begin accepts every buffer of 2,072 bytes or more");
+        // The entries of a fresh writer end where the first will stand.
+        let is_fresh = begun.refusal == 0 && begun.record.end == archive::HEAD as u64;
+        assert!(is_fresh, "begin accepts every buffer of 2,072 bytes or more");
         MemoryWriter { buffer, record: begun.record, counts, index }
     }
 
