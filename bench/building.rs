@@ -1,5 +1,6 @@
 // Writing: all puts and the close, names of 9 bytes, into a slice of exactly the image's size. Neither side clears its slice
-// between the repetitions. Then what the check of the 256 counts costs by itself.
+// between the repetitions. Single puts and close are measured over 64 lists of 4,096 names in turn. Then what the check of the 256
+// counts costs by itself.
 use crate::archive::{self, Joined, Record};
 use crate::names::Names;
 use crate::table::{self, best, least};
@@ -31,13 +32,15 @@ pub fn build_rust(names: &[&str], buf: &mut [u8]) {
     }
 }
 
-// The times for an entry.
-fn building(n: usize, repetitions: usize) -> (f64, f64) {
-    let names = Names::new('p', 9, 0..n);
-    let names = names.all();
+// The times for an entry, over so many lists of different names in turn.
+fn building(n: usize, lists: usize, repetitions: usize) -> (f64, f64) {
+    let lists = Names::lists(n, lists);
+    let lists: Vec<Vec<&str>> = lists.iter().map(Names::all).collect();
     let size = image_size(n, 9);
     let (mut a, mut b) = (vec![0u8; size], vec![0u8; size]);
-    let times = best(repetitions, n, || build(&names, black_box(&mut a)), || build_rust(&names, black_box(&mut b)));
+    let ours = || lists.iter().for_each(|names| build(names, black_box(&mut a)));
+    let rust = || lists.iter().for_each(|names| build_rust(names, black_box(&mut b)));
+    let times = best(repetitions, lists.len() * n, ours, rust);
     assert!(a == b, "both wrote one image");
     table::row(&format!("build, an entry of {n}"), times, None);
     times
@@ -101,9 +104,9 @@ fn count_check() {
 }
 
 pub fn run() {
-    let small = building(4_096, 4_000);
-    building(100_000, 200);
-    let large = building(1_000_000, 31);
+    let small = building(4_096, 64, 64);
+    building(100_000, 1, 200);
+    let large = building(1_000_000, 1, 31);
     println!("| build, an entry of 1000000 over one of 4096 | {:.2} | {:.2} | | |", large.0 / small.0, large.1 / small.1);
     whole_list(100, 20_000);
     whole_list(1_000, 5_000);

@@ -62,7 +62,12 @@ pub struct List {
 
 impl List {
     fn new(n: usize) -> List {
-        let names = Names::new('p', LENGTH, 0..n).all().concat().into_bytes();
+        List::behind(0, n)
+    }
+
+    /// The names behind so many.
+    pub fn behind(first: usize, n: usize) -> List {
+        let names = Names::new('p', LENGTH, first..first + n).all().concat().into_bytes();
         let ends = (1..=n as u64).map(|i| LENGTH as u64 * i).collect();
         let ids = (0..n as u32).collect();
         let mut list = List { n, names, ends, ids, image: vec![] };
@@ -162,6 +167,7 @@ fn small(list: &List) -> Vec<Cost> {
         ("hash", "name of 1,024 bytes", one(|| archive::hash(black_box(&long), 0).hash)),
         ("begin", "call", one(|| archive::begin(0, 1, black_box(&mut counts), &buf).refusal)),
         ("index_words", "call", one(|| archive::index_words(black_box(4_096)))),
+        ("size_with", "call", one(|| archive::size_with(black_box(&record), 9, 7))),
         ("grown", "call", one(|| archive::grown(black_box(record), 200_000).refusal)),
         ("load", "load of 4,096 entries", load),
     ];

@@ -2,7 +2,7 @@
 use crate::archive::{self, Counts, Joined, Record};
 use crate::{least, least_of, Cost, List};
 use std::hint::black_box;
-use std::time::Instant;
+use std::time::{Duration, Instant};
 
 // Begin and all puts, with repeats on or off.
 fn puts(list: &List, repeats: u32, counts: &mut Counts, buf: &mut [u8]) -> Record {
@@ -15,30 +15,48 @@ fn puts(list: &List, repeats: u32, counts: &mut Counts, buf: &mut [u8]) -> Recor
 }
 
 // All puts by an index that was made before the first one.
-fn puts_indexed(list: &List, buf: &mut [u8], slots: &mut [u32]) -> f64 {
+fn puts_indexed(list: &List, buf: &mut [u8], slots: &mut [u32]) -> Duration {
     let mut counts = [0; 256];
-    least_of(list.n, || {
-        let mut record = archive::begin(0, 0, &mut counts, buf).record;
-        assert_eq!(archive::index(record, &counts, buf, slots), 0);
-        let begin = Instant::now();
-        for (name, id) in list.each() {
-            assert_eq!(archive::put_indexed(&mut record, &mut counts, buf, slots, name, id), 0);
-        }
-        begin.elapsed()
-    })
+    let mut record = archive::begin(0, 0, &mut counts, buf).record;
+    assert_eq!(archive::index(record, &counts, buf, slots), 0);
+    let begin = Instant::now();
+    for (name, id) in list.each() {
+        assert_eq!(archive::put_indexed(&mut record, &mut counts, buf, slots, name, id), 0);
+    }
+    begin.elapsed()
 }
 
+// The close of all puts.
+fn closed(list: &List, buf: &mut [u8]) -> Duration {
+    let mut counts = [0; 256];
+    let record = puts(list, 1, &mut counts, buf);
+    let begin = Instant::now();
+    assert_eq!(archive::close(record, &counts, buf).refusal, 0);
+    begin.elapsed()
+}
+
+// Lists as long as this one, of different names: 64 of a short one, since of one list again and again the processor learns each branch.
+fn like(list: &List) -> Vec<List> {
+    let count = if list.n <= 4_096 { 64 } else { 1 };
+    (0..count).map(|i| List::behind(i * list.n, list.n)).collect()
+}
+
+// Single puts and close over several lists in turn; then an index and a walk of one.
 fn writing(list: &List) -> Vec<Cost> {
+    let lists = like(list);
+    let each = |timed: &mut dyn FnMut(&List) -> Duration| {
+        least_of(lists.len() * list.n, || lists.iter().map(&mut *timed).sum())
+    };
     let mut counts = [0; 256];
     let mut buf = vec![0; list.image.len()];
     let mut slots = vec![0; archive::index_words(list.n)];
-    let indexed = puts_indexed(list, &mut buf, &mut slots);
-    let single = least(list.n, || {
-        black_box(puts(list, 1, &mut counts, &mut buf));
+    let indexed = each(&mut |list| puts_indexed(list, &mut buf, &mut slots));
+    let single = least(lists.len() * list.n, || {
+        lists.iter().for_each(|list| drop(black_box(puts(list, 1, &mut counts, &mut buf))));
     });
+    let close = each(&mut |list| closed(list, &mut buf));
+    assert!(lists.last().is_some_and(|last| last.image == buf), "the image of the last list");
     let record = puts(list, 1, &mut counts, &mut buf);
-    let close = least(list.n, || assert_eq!(archive::close(record, &counts, &mut buf).refusal, 0));
-    assert!(buf == list.image, "the image of the list");
     let index = least(list.n, || assert_eq!(archive::index(record, &counts, &buf, &mut slots), 0));
     // One more name walks all entries, and is refused for want of room.
     let off = Record { repeats: 0, ..record };

@@ -26,9 +26,17 @@ fn namings(list: &List) -> Vec<Cost> {
     vec![
         ("to_str", "call", each(&ids, |id| archive::to_str(image, id).start)),
         ("panel", "call", each(&ids, |id| archive::panel(image, id).start)),
+        ("entry", "call", each(&offsets(list), |offset| archive::entry(image, offset).start)),
+        ("table", "call", each(&ids, |id| archive::table(image, id).start.into())),
         ("home", "call", each(&ids, |id| archive::home(image, id).into())),
         ("moved", "call", each(&ids, |id| archive::moved(image, image, id).id.into())),
     ]
+}
+
+// Where the names' entries stand, in an order that jumps about.
+fn offsets(list: &List) -> Vec<u32> {
+    let names = Names::new('p', LENGTH, mixed(list.n));
+    names.all().iter().map(|name| archive::to_id(&list.image, name.as_bytes()).offset).collect()
 }
 
 // Rounds of 512, which take turns over the list.

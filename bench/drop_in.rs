@@ -68,35 +68,42 @@ fn written(write: impl FnOnce(&mut Cursor<Vec<u8>>)) -> Vec<u8> {
     stream.into_inner()
 }
 
+/// Lists of names, which take turns.
+type Lists<'a> = [Vec<&'a str>];
+
 // Both write one image, and both refuse repeats.
-fn unique(names: &[&str], repetitions: usize) {
-    let ours = || written(|stream| ours::put(lithwennog::CQDBWriter::new(stream).expect("a stream"), names, |_| true));
-    let rust = || {
+fn unique(lists: &Lists, repetitions: usize) {
+    let ours = |names: &[&str]| written(|stream| ours::put(lithwennog::CQDBWriter::new(stream).expect("a stream"), names, |_| true));
+    let rust = |names: &[&str]| {
         let mut held = HashSet::new();
         written(|stream| rust::put(cqdb::CQDBWriter::new(stream).expect("a stream"), names, |name| held.insert(name)))
     };
-    compare("CQDBWriter beside cqdb-rs and a HashSet", names.len(), repetitions, ours, rust);
+    compare("CQDBWriter beside cqdb-rs and a HashSet", lists, repetitions, ours, rust);
 }
 
 // Both write one image, and neither looks for repeats.
-fn repeated(names: &[&str], repetitions: usize) {
+fn repeated(lists: &Lists, repetitions: usize) {
     let flag = lithwennog::Flag::NONE;
-    let ours = || written(|stream| ours::put(lithwennog::CQDBWriter::with_repeats(stream, flag).expect("a stream"), names, |_| true));
-    let rust = || written(|stream| rust::put(cqdb::CQDBWriter::new(stream).expect("a stream"), names, |_| true));
-    compare("CQDBWriter with repeats", names.len(), repetitions, ours, rust);
+    let ours =
+        |names: &[&str]| written(|stream| ours::put(lithwennog::CQDBWriter::with_repeats(stream, flag).expect("a stream"), names, |_| true));
+    let rust = |names: &[&str]| written(|stream| rust::put(cqdb::CQDBWriter::new(stream).expect("a stream"), names, |_| true));
+    compare("CQDBWriter with repeats", lists, repetitions, ours, rust);
 }
 
-fn compare(what: &str, n: usize, repetitions: usize, ours: impl Fn() -> Vec<u8>, rust: impl Fn() -> Vec<u8>) {
-    assert!(ours() == rust(), "the same image");
-    let times = best(repetitions, n, || drop(black_box(ours())), || drop(black_box(rust())));
+fn compare(what: &str, lists: &Lists, repetitions: usize, ours: impl Fn(&[&str]) -> Vec<u8>, rust: impl Fn(&[&str]) -> Vec<u8>) {
+    let n = lists[0].len();
+    assert!(lists.iter().all(|names| ours(names) == rust(names)), "the same images");
+    let all = |write: &dyn Fn(&[&str]) -> Vec<u8>| lists.iter().for_each(|names| drop(black_box(write(names))));
+    let times = best(repetitions, lists.len() * n, || all(&ours), || all(&rust));
     table::row(&format!("the crate: {what}, an entry of {n}"), times, None);
 }
 
 pub fn run() {
-    for (n, repetitions) in [(4_096, 3_000), (100_000, 100), (1_000_000, 15)] {
-        let names = Names::new('p', 9, 0..n);
-        unique(&names.all(), repetitions);
-        repeated(&names.all(), repetitions);
+    for (n, lists, repetitions) in [(4_096, 64, 47), (100_000, 1, 100), (1_000_000, 1, 15)] {
+        let lists = Names::lists(n, lists);
+        let lists: Vec<Vec<&str>> = lists.iter().map(Names::all).collect();
+        unique(&lists, repetitions);
+        repeated(&lists, repetitions);
     }
     for (n, repetitions) in [(4_096, 3_000), (100_000, 300), (1_000_000, 31)] {
         let image = image(&Names::new('p', 9, 0..n).all());

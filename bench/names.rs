@@ -23,6 +23,13 @@ impl Names {
         Names::of(length, numbers.map(|i| format!("{letter}{i:0width$}", width = length - 1)))
     }
 
+    /// So many lists of n names of 9 bytes, all different. Short lists take turns in a measurement: of one list again and again the
+    /// processor learns each branch.
+    #[allow(dead_code)]
+    pub fn lists(n: usize, lists: usize) -> Vec<Names> {
+        (0..lists).map(|list| Names::new('p', 9, list * n..(list + 1) * n)).collect()
+    }
+
     /// These names, all of this length.
     pub fn of(length: usize, names: impl Iterator<Item = String>) -> Names {
         Names { bytes: names.flat_map(String::into_bytes).collect(), length: black_box(length) }

@@ -46,7 +46,8 @@
      bundle_count                    image                                      2.2
      bundle_open                     image up to the one that is opened         2.5
      canonical                       entry                                       10        19       2
-     close                           entry                                       11        16      39
+     close                           entry                                       16        16      39
+     entry                           call                                       1.9       2.1
      grown                           call                                       1.6
      hash                            name of 9 bytes                            3.5
      hash                            name of 1,024 bytes                        300
@@ -71,7 +72,7 @@
      preflight_first                 report of 512 ids                      886,046 2,720,283       2
      put, repeats off                earlier entry                              4.1       4.1       2
      put, repeats on                 call                                        20        20
-     put_indexed                     call                                        14        24
+     put_indexed                     call                                        20        24
      readings_agree                  id below the back size                     3.1       3.1
      references_first                pair and id of the round, at most          0.4
      round                           name that is found                          14        17      14
@@ -79,6 +80,8 @@
      sheet_read                      call                                       2.7
      sheet_write                     id                                         0.5
      size_hint                       call                                       1.6       1.6
+     size_with                       call                                       1.8
+     table                           call                                       1.6       1.4
      to_id                           name that is found                          10        23
      to_id                           name that is absent                        9.1        17
      to_str                          call                                       1.9       3.3
@@ -265,6 +268,33 @@ uint32_t cqdb_size_hint(const uint8_t *image, size_t len, uint32_t next);
    cqdb_close every id that has a name is home. */
 uint32_t cqdb_home(const uint8_t *image, size_t len, uint32_t id);
 
+/* Where entries and tables stand, for programs that go over all entries, named by an id or not. Never refused. */
+
+/* found is 1 or 0. The entry's name is the len bytes from image + start on, which lie in the image. All are 0 where no entry is
+   found. */
+typedef struct {
+    uint32_t found;
+    uint32_t id;
+    uint32_t len;
+    uint64_t start;
+} cqdb_entry_answer;
+
+/* The entry at an offset, as cqdb_to_id, cqdb_one_to_one and the buckets of a table give it. None at the offset 0, and none where
+   its first 8 bytes or its name leave the image or its length word is 0. In an image of cqdb_close the first entry stands at
+   2,072, and each of the others one zero byte behind the name of the one before: at start + len + 1. */
+cqdb_entry_answer cqdb_entry(const uint8_t *image, size_t len, uint32_t offset);
+
+/* Both are 0 where a lookup of such a name reads no bucket. */
+typedef struct {
+    uint32_t buckets;
+    uint32_t start;
+} cqdb_table_answer;
+
+/* The table in which names of this hash are sought: the one of hash modulo 256. Its buckets are the 8 x buckets bytes from
+   image + start on, which lie in the image: each a hash and the offset of an entry, or 0 where the bucket is empty; two words,
+   the lowest byte first. */
+cqdb_table_answer cqdb_table(const uint8_t *image, size_t len, uint32_t hash);
+
 /* 1 when these bytes are the image that some list of puts closes to, one-way or two-way, repeats allowed, names free of zero
    bytes, with no byte after it; else 0. It is 1 for the image of every list of calls from a begin: the first `size` bytes of
    the buffer after the close, lent with exactly that length. Two different lists of accepted puts in one direction never
@@ -368,9 +398,9 @@ typedef struct {
 typedef char cqdb_writer_in_place[offsetof(cqdb_writer, back) == 12 && offsetof(cqdb_writer, length) == 16 &&
                                   offsetof(cqdb_writer, end) == 24 ? 1 : -1];
 
-/* The archive exports cqdb_begin_parts, cqdb_put_parts, cqdb_close_parts and cqdb_grown_parts; cqdb_begin, cqdb_put,
-   cqdb_close and cqdb_grown below call them, and programs in other languages may. They take the writer in parts, in place:
-   the words mode, repeats, entries and back, the sizes length and end, and the counts. */
+/* The archive exports cqdb_begin_parts, cqdb_put_parts, cqdb_close_parts, cqdb_grown_parts and cqdb_size_with_parts; cqdb_begin,
+   cqdb_put, cqdb_close, cqdb_grown and cqdb_size_with below call them, and programs in other languages may. They take the writer
+   in parts, in place: the words mode, repeats, entries and back, the sizes length and end, and the counts. */
 
 /* refusal is 0 when the call was accepted; size is the image's, 0 when the call was refused. */
 typedef struct {
@@ -386,6 +416,7 @@ uint32_t cqdb_put_parts(uint32_t *numbers, uint64_t *sizes, uint32_t *counts, ui
 cqdb_close_answer cqdb_close_parts(const uint32_t *numbers, const uint64_t *sizes, const uint32_t *counts, uint8_t *buf,
                                    size_t len);
 uint32_t cqdb_grown_parts(const uint32_t *numbers, uint64_t *sizes, uint64_t len);
+uint64_t cqdb_size_with_parts(const uint32_t *numbers, const uint64_t *sizes, size_t name_len, uint32_t id);
 
 /* Begins with the choice that `repeats` names: what cqdb_begin and cqdb_begin_repeats do. */
 CQDB_LENGTH_ALONE(4) CQDB_INLINED
@@ -439,6 +470,14 @@ static inline uint32_t cqdb_put_text(cqdb_writer *w, uint8_t *buf, size_t len, c
    has become shorter, or for a mode or a repeats that is neither 0 nor 1. */
 static inline uint32_t cqdb_grown(cqdb_writer *w, size_t len) {
     return cqdb_grown_parts(&w->mode, &w->length, len);
+}
+
+/* The finished size after a put of an id and a name of name_len bytes, as cqdb_put has it: how long the buffer has to be, or
+   longer, for this put not to be refused with 3, where that is 4,294,967,295 or less. It is 2^64 - 1 for a name of 4,294,967,295
+   bytes or more, and for an end of 2^63 or more. Reads mode, entries, back and end alone; a mode other than 0 is taken as
+   one-way. Never refused, and changes nothing. */
+static inline uint64_t cqdb_size_with(const cqdb_writer *w, size_t name_len, uint32_t id) {
+    return cqdb_size_with_parts(&w->mode, &w->length, name_len, id);
 }
 
 /* Writes head, tables and back array: the buffer's first `size` bytes are then the image, up to the next accepted put.

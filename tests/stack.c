@@ -31,6 +31,8 @@ static void to_str(void) { kept = cqdb_to_str(image, size, 77).start; }
 static void panel(void) { kept = cqdb_panel(image, size, 77).start; }
 static void readings_agree(void) { kept = cqdb_readings_agree(image, size); }
 static void size_hint(void) { kept = cqdb_size_hint(image, size, 0); }
+static void entry(void) { kept = cqdb_entry(image, size, 2072).start; }
+static void table(void) { kept = cqdb_table(image, size, 7).start; }
 static void home(void) { kept = cqdb_home(image, size, 77); }
 static void canonical(void) { kept = cqdb_canonical(image, size); }
 static void one_to_one(void) { kept = cqdb_one_to_one(image, size).ok; }
@@ -41,6 +43,7 @@ static void version_number(void) { kept = cqdb_version_number(); }
 static void print(void) { kept = cqdb_page(image, size, page, sizeof page).length; }
 static void page_part(void) { kept = cqdb_page_part(image, size, 7, 70, page, sizeof page).length; }
 static void grown(void) { kept = cqdb_grown(&w, sizeof buf); }
+static void size_with(void) { kept = cqdb_size_with(&w, 9, 7); }
 static void build_needs(void) { kept = cqdb_build_needs(CQDB_TWOWAY, sizeof names, ids, NAMES).bytes; }
 static void round_(void) { kept = cqdb_round(image, size, names, sizeof names, ends, 512, answers, 512).buckets; }
 static void name_round(void) { kept = cqdb_name_round(image, size, ids, 512, places, 512); }
@@ -99,7 +102,7 @@ static const struct {
     void (*call)(void);
 } calls[] = {{"version_number", version_number}, {"page_length", page_length}, {"hash", hash}, {"open", open_}, {"to_id", to_id}, {"to_str", to_str}, {"panel", panel}, {"readings_agree", readings_agree},
              {"size_hint", size_hint}, {"home", home}, {"canonical", canonical}, {"one_to_one", one_to_one}, {"average", average}, {"lengths", lengths}, {"page", print}, {"page_part", page_part}, {"grown", grown},
-             {"build_needs", build_needs},
+             {"build_needs", build_needs}, {"entry", entry}, {"table", table}, {"size_with", size_with},
              {"round", round_}, {"name_round", name_round}, {"begin", begin}, {"put, repeats on", put_on}, {"put, repeats off", put_off},
              {"index", index_}, {"put_indexed", put_indexed}, {"index_words", index_words}, {"close", close_}, {"build, no name refused", build_}, {"build, a name refused, 5 words", build_refused},
              {"build, a name refused, no words", build_walked}, {"load", load}, {"name_on", name_on},

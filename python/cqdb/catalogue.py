@@ -11,7 +11,7 @@ from typing import Any, Iterable, Iterator, List, Optional, Tuple, TypeVar, Unio
 from cqdb.changes import Change, changed
 from cqdb.check import Check, checked
 from cqdb.dates import Window, day, lent_windows
-from cqdb.entries import first_puts, id_at, name_at
+from cqdb.entries import FirstPuts
 from cqdb.ids import Ids
 from cqdb.library import SHORT, calls, short_to_id
 from cqdb.memory import Image, Path, mapped
@@ -85,7 +85,7 @@ class Catalogue(Mapping[str, int]):
         self._length = ctypes.c_size_t(len(image))
         self._text = text
         self._path: Optional[str] = None
-        self._first_puts: Optional[array] = None
+        self._first_puts: Optional[FirstPuts] = None
 
     def _lent(self) -> Image:
         """The image, which the caller holds while the library reads it, so that a close by another thread does no harm."""
@@ -173,16 +173,16 @@ class Catalogue(Mapping[str, int]):
         found = self._find(name)
         return default if found is None else found
 
-    def _offsets(self, image: Image) -> array:
-        """The offsets of the entries that lookups give."""
+    def _entries(self, image: Image) -> FirstPuts:
+        """The entries that lookups give."""
         found = self._first_puts
         if found is None:
-            found = self._first_puts = first_puts(image)
+            found = self._first_puts = FirstPuts(image)
         return found
 
     def __len__(self) -> int:
         """The number of names that have an id. `num` counts a name that was put again each time."""
-        return len(self._offsets(self._lent()))
+        return len(self._entries(self._lent()))
 
     def __iter__(self) -> Iterator[str]:
         """The names that have an id, in the order of their first puts.
@@ -194,8 +194,8 @@ class Catalogue(Mapping[str, int]):
 
     def _pairs(self) -> Iterator[Tuple[str, int]]:
         image = self._lent()
-        for offset in self._offsets(image):
-            yield self._text.decode(name_at(image, offset)), id_at(image, offset)
+        for name, id in self._entries(image).pairs(image):
+            yield self._text.decode(name), id
 
     def items(self) -> Items:
         """The names with their ids.

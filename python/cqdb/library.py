@@ -26,6 +26,14 @@ class StrAnswer(Structure):
     _fields_ = [("found", c_uint32), ("len", c_uint32), ("start", c_uint64)]
 
 
+class EntryAnswer(Structure):
+    _fields_ = [("found", c_uint32), ("id", c_uint32), ("len", c_uint32), ("start", c_uint64)]
+
+
+class TableAnswer(Structure):
+    _fields_ = [("buckets", c_uint32), ("start", c_uint32)]
+
+
 class ChangeAnswer(Structure):
     _fields_ = [("found", c_uint32), ("id", c_uint32), ("before", StrAnswer), ("after", StrAnswer)]
 
@@ -125,6 +133,8 @@ _FUNCTIONS: List[Tuple[str, Any, List[Any]]] = [
     ("cqdb_to_str", StrAnswer, _LENT + [c_uint32]),
     ("cqdb_size_hint", c_uint32, _LENT + [c_uint32]),
     ("cqdb_home", c_uint32, _LENT + [c_uint32]),
+    ("cqdb_entry", EntryAnswer, _LENT + [c_uint32]),
+    ("cqdb_table", TableAnswer, _LENT + [c_uint32]),
     ("cqdb_canonical", c_uint32, _LENT),
     ("cqdb_one_to_one", OneToOneAnswer, _LENT),
     ("cqdb_readings_agree", c_uint32, _LENT),
@@ -142,6 +152,7 @@ _FUNCTIONS: List[Tuple[str, Any, List[Any]]] = [
     ("cqdb_put_indexed_parts", c_uint32, [c_void_p, c_void_p, c_void_p] + _LENT * 3 + [c_uint32]),
     ("cqdb_close_parts", CloseAnswer, [c_void_p, c_void_p, c_void_p] + _LENT),
     ("cqdb_grown_parts", c_uint32, [c_void_p, c_void_p, c_uint64]),
+    ("cqdb_size_with_parts", c_uint64, [c_void_p, c_void_p, c_size_t, c_uint32]),
     ("cqdb_build_needs", BuildNeeds, [c_uint32, c_size_t] + _LENT),
     ("cqdb_build_parts", BuildAnswer, [c_uint32, c_uint32] + _LENT * 6),
     ("cqdb_sheet_read", SheetAnswer, _LENT),

@@ -5,7 +5,6 @@ import enum
 from dataclasses import dataclass
 from typing import Optional, Tuple
 
-from cqdb.entries import id_at, name_at
 from cqdb.library import calls
 from cqdb.memory import Image
 from cqdb.refusal import accept
@@ -41,5 +40,5 @@ def first_mismatch(image: Image) -> Optional[Tuple[Mismatch, int, int, bytes]]:
     accept(answer.refusal)
     if answer.ok:
         return None
-    offset = answer.offset
-    return Mismatch(answer.kind), offset, id_at(image, offset), name_at(image, offset)
+    entry = calls.cqdb_entry(image, len(image), answer.offset)
+    return Mismatch(answer.kind), answer.offset, entry.id, image[entry.start : entry.start + entry.len]

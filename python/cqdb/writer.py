@@ -111,14 +111,12 @@ class Writer:
         return larger
 
     def _grow(self, name_length: int, id: int) -> bool:
-        """Takes a larger buffer with the same entries, where some image can hold this put. It is longer by what the put needs in
-        an image of its own, or more: that is room enough, since the image of now fits the buffer of now."""
+        """Takes a larger buffer with the same entries, where some image can hold this put."""
         held = self._held
-        length = held.record.length
-        needed = calls.cqdb_build_needs(held.record.mode, name_length, ctypes.byref(ctypes.c_uint32(id)), 1).bytes
-        if needed > LARGEST_IMAGE or length == LARGEST_IMAGE:
+        needed = calls.cqdb_size_with_parts(*_in_place(held.record), name_length, id)
+        if needed > LARGEST_IMAGE:
             return False
-        larger = _longer(length, needed)
+        larger = _longer(held.record.length, needed)
         ctypes.memmove(larger, held.buffer, held.record.end)
         record = Record.from_buffer_copy(held.record)
         accept(calls.cqdb_grown_parts(*_in_place(record), len(larger)))
@@ -158,8 +156,8 @@ def _words(names: int) -> Any:
 
 
 def _longer(length: int, needed: int) -> Any:
-    """A buffer that is longer by what is needed; twice as long, if that is more and can be had, so that few are taken."""
+    """A buffer that is as long as is needed; twice as long as before, if that is more and can be had, so that few are taken."""
     try:
-        return zeros(min(length + max(length, needed), LARGEST_IMAGE))
+        return zeros(min(max(2 * length, needed), LARGEST_IMAGE))
     except MemoryError:
-        return zeros(min(length + needed, LARGEST_IMAGE))
+        return zeros(needed)

@@ -19,6 +19,8 @@ STRUCTS = {
     "cqdb_open_answer": library.OpenAnswer,
     "cqdb_id_answer": library.IdAnswer,
     "cqdb_str_answer": library.StrAnswer,
+    "cqdb_entry_answer": library.EntryAnswer,
+    "cqdb_table_answer": library.TableAnswer,
     "cqdb_change_answer": library.ChangeAnswer,
     "cqdb_moved_answer": library.MovedAnswer,
     "cqdb_one_to_one_answer": library.OneToOneAnswer,

@@ -3,6 +3,10 @@
 //! call is lent stands beside it.
 //! The crate, the comparisons with the original and the benchmarks all use this file.
 
+/// Where the first entry stands: behind the head, which is as long in every image.
+#[allow(dead_code)]
+pub const HEAD: usize = 2_072;
+
 #[repr(C)]
 #[derive(Clone, Copy, Debug, PartialEq, Eq)]
 pub struct HashAnswer {
@@ -32,6 +36,24 @@ pub struct StrAnswer {
     pub found: u32,
     pub len: u32,
     pub start: u64,
+}
+
+/// An entry's id and the place of its name.
+#[repr(C)]
+#[derive(Clone, Copy, Debug, PartialEq, Eq)]
+pub struct EntryAnswer {
+    pub found: u32,
+    pub id: u32,
+    pub len: u32,
+    pub start: u64,
+}
+
+/// Where the buckets of a table stand.
+#[repr(C)]
+#[derive(Clone, Copy, Debug, PartialEq, Eq)]
+pub struct TableAnswer {
+    pub buckets: u32,
+    pub start: u32,
 }
 
 /// The writer record without its 256 table counts, which are lent beside it.
@@ -272,6 +294,8 @@ extern "C" {
     fn cqdb_size_hint(image: *const u8, len: usize, next: u32) -> u32;
     fn cqdb_home(image: *const u8, len: usize, id: u32) -> u32;
     fn cqdb_canonical(image: *const u8, len: usize) -> u32;
+    fn cqdb_entry(image: *const u8, len: usize, offset: u32) -> EntryAnswer;
+    fn cqdb_table(image: *const u8, len: usize, hash: u32) -> TableAnswer;
     fn cqdb_one_to_one(image: *const u8, len: usize) -> OneToOneAnswer;
     fn cqdb_page_length(image: *const u8, len: usize) -> u64;
     fn cqdb_page(image: *const u8, len: usize, out: *mut u8, out_len: usize) -> PageAnswer;
@@ -322,6 +346,7 @@ extern "C" {
         len: usize,
     ) -> CloseAnswer;
     fn cqdb_grown_parts(numbers: *const u32, sizes: *mut u64, len: u64) -> u32;
+    fn cqdb_size_with_parts(numbers: *const u32, sizes: *const u64, name_len: usize, id: u32) -> u64;
     fn cqdb_index_words(names: usize) -> usize;
     fn cqdb_index_parts(
         numbers: *const u32,
@@ -476,6 +501,19 @@ pub fn home(image: &[u8], id: u32) -> u32 {
     unsafe { cqdb_home(image.as_ptr(), image.len(), id) }
 }
 
+/// The id of the entry at an offset and the place of its name, or nothing.
+#[inline]
+pub fn entry(image: &[u8], offset: u32) -> EntryAnswer {
+    // SAFETY: the image is lent with its length, and only read.
+    unsafe { cqdb_entry(image.as_ptr(), image.len(), offset) }
+}
+
+/// Where the buckets of a hash's table stand, or nothing.
+pub fn table(image: &[u8], hash: u32) -> TableAnswer {
+    // SAFETY: the image is lent with its length, and only read.
+    unsafe { cqdb_table(image.as_ptr(), image.len(), hash) }
+}
+
 /// 1 when the bytes are the image that some list of puts closes to, with no byte after it, else 0.
 pub fn canonical(image: &[u8]) -> u32 {
     // SAFETY: the image is lent with its length, and is only read.
@@ -585,6 +623,13 @@ pub fn grown_in(record: &mut Record, len: u64) -> u32 {
 pub fn grown(mut record: Record, len: u64) -> RecordAnswer {
     let refusal = grown_in(&mut record, len);
     RecordAnswer { refusal, record }
+}
+
+/// The finished size after a put of an id and a name of this length.
+pub fn size_with(record: &Record, name_len: usize, id: u32) -> u64 {
+    let (numbers, sizes) = read_in_place(record);
+    // SAFETY: the record is lent in place, and only read.
+    unsafe { cqdb_size_with_parts(numbers, sizes, name_len, id) }
 }
 
 /// How many words to lend for an index of this many names.

@@ -4,7 +4,7 @@ use std::collections::HashSet;
 use crate::archive::{self, Joined};
 use crate::flag::Flag;
 use crate::refusal::{self, Refusal};
-use crate::write::{MemoryWriter, HEAD, LIMIT};
+use crate::write::{MemoryWriter, LIMIT};
 use crate::zeros::zeros;
 
 /// The image of a whole list, with the refusal of each put that was refused.
@@ -52,11 +52,7 @@ impl MemoryWriter {
 const REPEATS_OFF: u32 = 0;
 const REPEATS_ON: u32 = 1;
 
-fn build<K: AsRef<[u8]>>(
-    flag: Flag,
-    repeats: u32,
-    list: impl IntoIterator<Item = (K, u32)>,
-) -> Result<Built, Refusal> {
+fn build<K: AsRef<[u8]>>(flag: Flag, repeats: u32, list: impl IntoIterator<Item = (K, u32)>) -> Result<Built, Refusal> {
     let (mut names, mut ends, mut ids) = (Vec::new(), Vec::new(), Vec::new());
     for (name, id) in list {
         names.extend_from_slice(name.as_ref());
@@ -65,30 +61,32 @@ fn build<K: AsRef<[u8]>>(
     }
     let needs = archive::build_needs(flag.bits(), names.len(), &ids);
     let joined = Joined { names: &names, ends: &ends, ids: &ids };
-    let back = if flag == Flag::ONEWAY { 0 } else { back_array(joined, repeats) };
-    let needed = HEAD as u64 + names.len() as u64 + 25 * ids.len() as u64 + back;
-    let mut image = zeros(needed.min(LIMIT) as usize).ok_or(Refusal::NoRoom)?;
+    let length = needed(flag, joined, repeats).min(LIMIT);
+    let mut image = zeros(length as usize).ok_or(Refusal::NoRoom)?;
     let (mut refusals, mut work) = (vec![0; ids.len()], vec![0; needs.words as usize]);
     let answer = archive::build(flag.bits(), repeats, &mut image, joined, &mut refusals, &mut work);
     image.truncate(answer.size as usize);
-    let refused = refusals.iter().enumerate().filter_map(|(i, &k)| refusal::or(k, ()).err().map(|why| (i, why))).collect();
+    let refused =
+        refusals.iter().enumerate().filter_map(|(i, &k)| refusal::or(k, ()).err().map(|why| (i, why))).collect();
     refusal::or(answer.refusal, Built { image, accepted: answer.accepted, refused })
 }
 
-/// The bytes of the back array, or more. A put that is refused for its name, or for an id that fits into no image, needs
-/// none: such puts are left out where the array would be larger than the rest of the image.
-fn back_array(list: Joined<'_>, repeats: u32) -> u64 {
-    let bytes = |id: &u32| 4 * (u64::from(*id) + 1);
-    let most = list.ids.iter().map(bytes).max().unwrap_or(0);
-    if most <= list.names.len() as u64 + 25 * list.ids.len() as u64 {
-        return most;
+/// The bytes that the list needs, or more. A put that is refused for its name, or for an id that fits into no image, needs no
+/// back array: the ids of such puts are left out where the array would be larger than the rest of the image.
+fn needed(flag: Flag, list: Joined<'_>, repeats: u32) -> u64 {
+    let bytes = |flag: Flag, names: usize, ids: &[u32]| archive::build_needs(flag.bits(), names, ids).bytes;
+    let whole = bytes(flag, list.names.len(), list.ids);
+    if whole <= 2 * bytes(Flag::ONEWAY, list.names.len(), list.ids) {
+        return whole;
     }
     let starts = [0].iter().chain(list.ends);
     let names = starts.zip(list.ends).map(|(start, end)| &list.names[*start as usize..*end as usize]);
     let mut held = HashSet::new();
-    let fits = |name: &[u8], id| HEAD as u64 + name.len() as u64 + 25 + bytes(id) <= LIMIT;
-    let accepted = names
-        .zip(list.ids)
-        .filter(|(name, id)| !name.contains(&0) && fits(name, id) && (held.insert(*name) || repeats == REPEATS_ON));
-    accepted.map(|(_, id)| bytes(id)).max().unwrap_or(0)
+    let mut may_be_accepted = |name, id| {
+        let fits = bytes(flag, <[u8]>::len(name), &[id]) <= LIMIT;
+        !name.contains(&0) && fits && (held.insert(name) || repeats == REPEATS_ON)
+    };
+    let ids: Vec<u32> =
+        names.zip(list.ids).map(|(name, id)| if may_be_accepted(name, *id) { *id } else { 0 }).collect();
+    bytes(flag, list.names.len(), &ids)
 }

@@ -50,6 +50,12 @@ impl<'a> Bundle<'a> {
         refusal::or(answer.refusal, answer.images)
     }
 
+    /// How many bytes the first image says that it has, whatever that is; none where the file ends before its size word does. This
+    /// word is all that leads from an image to the next, and no call gives it for an image that does not open.
+    pub fn first_size(&self) -> Option<u32> {
+        Some(u32::from_le_bytes(self.file.get(4..8)?.try_into().ok()?))
+    }
+
     /// Opens each image, from the front.
     pub fn iter(&self) -> Images<'a> {
         Images { rest: self.file }
@@ -86,11 +92,12 @@ impl<'a> Iterator for Images<'a> {
     type Item = Result<CQDB<'a>, Refusal>;
 
     fn next(&mut self) -> Option<Self::Item> {
-        let opened = Bundle::new(self.rest).open(0);
+        let rest = Bundle::new(self.rest);
+        let opened = rest.open(0);
         let size = match opened {
             Err(Refusal::NoSuchImage) => return None,
             Err(Refusal::BrokenBundle) => self.rest.len(),
-            _ => u32::from_le_bytes([self.rest[4], self.rest[5], self.rest[6], self.rest[7]]) as usize,
+            _ => rest.first_size().expect("the walk came behind it") as usize,
         };
         self.rest = &self.rest[size..];
         Some(opened)

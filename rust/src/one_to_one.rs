@@ -1,6 +1,7 @@
 //! Names and ids one to one.
-use crate::archive::OneToOneAnswer;
+use crate::archive::{self, OneToOneAnswer};
 use crate::name::BStr;
+use crate::puts::name_of;
 
 /// Whether the names and ids of an image are one to one. See [`CQDB::one_to_one`](crate::CQDB::one_to_one).
 #[derive(Clone, Copy, Debug, PartialEq, Eq)]
@@ -37,10 +38,7 @@ impl<'a> OneToOne<'a> {
             1 => Mismatch::OtherId,
             _ => Mismatch::OtherName,
         };
-        let word = |at: usize| u32::from_le_bytes(image[at..at + 4].try_into().expect("four bytes"));
-        let at = answer.offset as usize;
-        // The length word counts the zero byte that follows the name.
-        let end = at + 7 + word(at + 4) as usize;
-        OneToOne::Fails { kind, offset: answer.offset, id: word(at), name: BStr::new(&image[at + 8..end]) }
+        let entry = archive::entry(image, answer.offset);
+        OneToOne::Fails { kind, offset: answer.offset, id: entry.id, name: name_of(image, entry) }
     }
 }

@@ -1,9 +1,8 @@
 //! The puts of a canonical image, read back.
 use std::iter::FusedIterator;
 
+use crate::archive::{self, EntryAnswer, HEAD};
 use crate::name::BStr;
-
-const HEAD: usize = 2072;
 
 /// The puts of an image, name and id, in put order: the list that makes the image. See [`CQDB::puts`](crate::CQDB::puts).
 ///
@@ -20,14 +19,15 @@ const HEAD: usize = 2072;
 /// ```
 #[derive(Clone, Debug)]
 pub struct Puts<'a> {
-    entries: &'a [u8],
+    image: &'a [u8],
+    next: u32,
     left: u32,
 }
 
 impl<'a> Puts<'a> {
-    // The image is canonical, and has `num` entries: they stand one after the other behind the head.
+    // The image is canonical, and has `num` entries; or it is a writer's buffer with so many.
     pub(crate) fn new(image: &'a [u8], num: u32) -> Self {
-        Puts { entries: &image[HEAD..], left: num }
+        Puts { image, next: HEAD as u32, left: num }
     }
 }
 
@@ -36,12 +36,11 @@ impl<'a> Iterator for Puts<'a> {
 
     fn next(&mut self) -> Option<Self::Item> {
         self.left = self.left.checked_sub(1)?;
-        let (id, rest) = word(self.entries);
-        // The length word counts the zero byte that follows the name.
-        let (length, rest) = word(rest);
-        let (name, rest) = rest.split_at(length as usize - 1);
-        self.entries = &rest[1..];
-        Some((BStr::new(name), id))
+        let entry = archive::entry(self.image, self.next);
+        let name = name_of(self.image, entry);
+        // A zero byte stands behind each name, and then the next entry; all lie below 4,294,967,295.
+        self.next = (entry.start + u64::from(entry.len) + 1) as u32;
+        Some((name, entry.id))
     }
 
     fn size_hint(&self) -> (usize, Option<usize>) {
@@ -53,7 +52,7 @@ impl ExactSizeIterator for Puts<'_> {}
 
 impl FusedIterator for Puts<'_> {}
 
-fn word(bytes: &[u8]) -> (u32, &[u8]) {
-    let (word, rest) = bytes.split_at(4);
-    (u32::from_le_bytes([word[0], word[1], word[2], word[3]]), rest)
+/// The name of an entry.
+pub(crate) fn name_of(image: &[u8], entry: EntryAnswer) -> &BStr {
+    BStr::new(&image[entry.start as usize..][..entry.len as usize])
 }

@@ -7,7 +7,7 @@ use crate::average::Average;
 use crate::name::BStr;
 use crate::one_to_one::OneToOne;
 use crate::page::Page;
-use crate::puts::Puts;
+use crate::puts::{name_of, Puts};
 use crate::refusal::{self, Refusal};
 
 /// What a lookup finds.
@@ -145,6 +145,42 @@ impl<'a> CQDB<'a> {
         self.is_canonical().then(|| Puts::new(self.image, self.num))
     }
 
+    /// The name and the id of the entry at an offset, as [`lookup`](CQDB::lookup), [`one_to_one`](CQDB::one_to_one) and
+    /// [`buckets`](CQDB::buckets) give it; nothing where no whole entry stands there.
+    ///
+    /// ```
+    /// # fn main() -> std::io::Result<()> {
+    /// let image = cqdb::load(0);
+    /// let db = cqdb::CQDB::new(&image)?;
+    /// let found = db.lookup(b"P3C6EF35F").0.expect("the first name of the load");
+    /// assert_eq!(db.entry(found.offset), Some((cqdb::BStr::new("P3C6EF35F"), 0)));
+    /// # Ok(())
+    /// # }
+    /// ```
+    pub fn entry(&self, offset: u32) -> Option<(&'a BStr, u32)> {
+        let entry = archive::entry(self.image, offset);
+        (entry.found == 1).then(|| (name_of(self.image, entry), entry.id))
+    }
+
+    /// The hash and the entry's offset in each filled bucket of the table in which names of this hash are sought: the table of
+    /// the hash modulo 256.
+    pub fn buckets(&self, hash: u32) -> impl Iterator<Item = (u32, u32)> + 'a {
+        let table = archive::table(self.image, hash);
+        let buckets = &self.image[table.start as usize..][..8 * table.buckets as usize];
+        let word = |bytes: &[u8]| u32::from_le_bytes(bytes.try_into().expect("four bytes"));
+        buckets.chunks_exact(8).map(move |pair| (word(&pair[..4]), word(&pair[4..]))).filter(|(_, offset)| *offset > 0)
+    }
+
+    /// How many bytes the image says that it has. Opening does not check it.
+    pub fn size_word(&self) -> u32 {
+        Header::of(self.image).size
+    }
+
+    /// 0 where the image says that it is two-way, 1 where it says that it is one-way. Opening does not check it.
+    pub fn flag_word(&self) -> u32 {
+        Header::of(self.image).flag
+    }
+
     /// Are names and ids one to one? They are where the name of every entry finds its id and, in a two-way image, its id gives its
     /// name; otherwise the answer is the first entry, in put order, that fails. Refused with [`Refusal::NotCanonical`] where
     /// [`CQDB::is_canonical`] says no.
@@ -203,7 +239,7 @@ impl<'a> CQDB<'a> {
     }
 }
 
-/// The words of the head, as `{:?}` shows them.
+/// The words of the head, to be shown: no answer of a call rests on them as they are read here.
 #[derive(Debug)]
 #[allow(dead_code)]
 struct Header {
@@ -215,18 +251,25 @@ struct Header {
     bwd_offset: u32,
 }
 
-impl fmt::Debug for CQDB<'_> {
-    fn fmt(&self, f: &mut fmt::Formatter<'_>) -> fmt::Result {
-        let four = |at: usize| -> [u8; 4] { self.image[at..at + 4].try_into().expect("an opened image has a head") };
+impl Header {
+    /// Those of an opened image.
+    fn of(image: &[u8]) -> Header {
+        let four = |at: usize| -> [u8; 4] { image[at..at + 4].try_into().expect("an opened image has a head") };
         let word = |at: usize| u32::from_le_bytes(four(at));
-        let header = Header {
+        Header {
             chunk_id: four(0),
             size: word(4),
             flag: word(8),
             byteorder: word(12),
             bwd_size: word(16),
             bwd_offset: word(20),
-        };
+        }
+    }
+}
+
+impl fmt::Debug for CQDB<'_> {
+    fn fmt(&self, f: &mut fmt::Formatter<'_>) -> fmt::Result {
+        let header = Header::of(self.image);
         f.debug_struct("CQDB")
             .field("header", &header)
             .field("bwd_offset", &header.bwd_offset)

@@ -3,8 +3,9 @@ use std::fmt;
 use std::io::{self, Seek, SeekFrom, Write};
 use std::thread;
 
+use crate::archive::HEAD;
 use crate::flag::Flag;
-use crate::write::{MemoryWriter, HEAD};
+use crate::write::MemoryWriter;
 
 /// Writes an image to a stream, with the calls of cqdb-rs, at the place where the stream stood at the beginning. Each
 /// accepted put writes its entry, so that an error of the stream comes out of that [`put`](CQDBWriter::put).

@@ -3,11 +3,10 @@ use std::fmt;
 
 use crate::archive::{self, Counts, Record};
 use crate::flag::Flag;
+use crate::puts::Puts;
 use crate::refusal::{self, Refusal};
 use crate::zeros::zeros;
 
-/// The head of an image, which the entries follow.
-pub(crate) const HEAD: usize = 2_072;
 /// The length of the first buffer; it grows as needed.
 const FIRST: usize = 4_096;
 /// The choice of repeats, as the record has it.
@@ -81,7 +80,9 @@ impl MemoryWriter {
         let buffer = vec![0; FIRST];
         let mut counts = [0; 256];
         let begun = archive::begin(flag.bits(), repeats, &mut counts, &buffer);
-        assert_eq!(begun.refusal, 0, "begin accepts every buffer of 2,072 bytes or more");
+        // The entries of a fresh writer end where the first will stand.
+        let is_fresh = begun.refusal == 0 && begun.record.end == archive::HEAD as u64;
+        assert!(is_fresh, "begin accepts every buffer of 2,072 bytes or more");
         MemoryWriter { buffer, record: begun.record, counts, index }
     }
 
@@ -113,21 +114,24 @@ impl MemoryWriter {
     /// ```
     pub fn place_of(&self, name: &[u8]) -> Option<u32> {
         self.index.as_ref()?;
-        let (mut at, mut place) = (HEAD, 0);
-        while at < self.record.end as usize {
-            let held = name_at(&self.buffer, at);
-            if held == name {
-                return Some(place);
-            }
-            at += 9 + held.len();
-            place += 1;
-        }
-        None
+        let place = Puts::new(&self.buffer, self.record.entries).position(|(held, _)| held == name)?;
+        Some(place as u32)
     }
 
     /// The bytes of the entries from an offset on, which is an entry's or the end's.
     pub(crate) fn entries_from(&self, offset: usize) -> &[u8] {
         &self.buffer[offset..self.record.end as usize]
+    }
+
+    /// The size that the finished image would have after a put of an id and a name of this length, also where no image can have
+    /// it: the largest number for a name of 4,294,967,295 bytes or more.
+    ///
+    /// ```
+    /// let writer = cqdb::MemoryWriter::new();
+    /// assert_eq!(writer.size_with("north wall".len(), 0), 2_072 + 25 + 10 + 4);
+    /// ```
+    pub fn size_with(&self, name_len: usize, id: u32) -> u64 {
+        archive::size_with(&self.record, name_len, id)
     }
 
     /// Closes the writer and gives the finished image.
@@ -174,7 +178,7 @@ impl MemoryWriter {
         if length / LEAP > self.buffer.len() {
             // One large id: fresh pages are zero, and cost nothing until they are written to.
             let Some(mut larger) = zeros(length) else { return false };
-            larger[HEAD..end].copy_from_slice(&self.buffer[HEAD..end]);
+            larger[..end].copy_from_slice(&self.buffer[..end]);
             self.buffer = larger;
             return true;
         }
@@ -186,15 +190,6 @@ impl MemoryWriter {
             self.buffer.resize(length, 0);
         }
         room.is_ok()
-    }
-
-    /// The size of the finished image after a put.
-    fn size_with(&self, name_len: usize, id: u32) -> u64 {
-        let back = match self.record.mode {
-            0 => u64::from(self.record.back).max(u64::from(id) + 1),
-            _ => 0,
-        };
-        self.record.end + (name_len as u64 + 9) + 16 * (u64::from(self.record.entries) + 1) + 4 * back
     }
 }
 
@@ -216,13 +211,6 @@ impl Index {
             self.names = names;
         }
     }
-}
-
-/// The name of the entry at an offset: the id, the length of the name plus 1, and the name.
-fn name_at(buffer: &[u8], at: usize) -> &[u8] {
-    let entry = &buffer[at..];
-    let length = u32::from_le_bytes([entry[4], entry[5], entry[6], entry[7]]) as usize - 1;
-    &entry[8..8 + length]
 }
 
 impl Default for MemoryWriter {

@@ -50,6 +50,9 @@ fn an_empty_file() {
     assert_eq!(Bundle::new(&[]).count(), Ok(0));
     assert_eq!([refused(&[], 0), refused(&[], 7)], [Some(Refusal::NoSuchImage); 2]);
     assert!(Bundle::new(&[]).iter().next().is_none());
+    assert_eq!(Bundle::new(b"").first_size(), None);
+    assert_eq!(Bundle::new(b"CQDB\x01\x02\0").first_size(), None);
+    assert_eq!(Bundle::new(b"CQDB\x01\x02\0\0").first_size(), Some(513));
 }
 
 #[test]

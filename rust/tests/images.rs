@@ -135,6 +135,46 @@ fn the_panel_reads_up_to_a_zero_byte() {
 }
 
 #[test]
+fn entries_and_tables_stand_where_they_are_said_to() {
+    for flag in [Flag::NONE, Flag::ONEWAY] {
+        let puts: [(&[u8], u32); 4] = [(b"A", 3), (b"B", 1), (b"A", 2), (b"", 7)];
+        let image = filled(MemoryWriter::with_repeats(flag), &puts);
+        let db = CQDB::new(&image).unwrap();
+        assert_eq!((db.size_word() as usize, db.flag_word()), (image.len(), flag.bits()));
+        let mut offsets = Vec::new();
+        for table in 0..256 {
+            assert!(db.buckets(table).eq(db.buckets(table + 512)), "by the lowest byte of a hash");
+            for (hash, offset) in db.buckets(table) {
+                let (name, _) = db.entry(offset).unwrap();
+                assert_eq!((hash, hash % 256), (cqdb::jhash(name, 0).unwrap(), table));
+                offsets.push(offset);
+            }
+        }
+        offsets.sort_unstable();
+        let entries: Vec<_> = offsets.iter().map(|offset| db.entry(*offset).unwrap()).collect();
+        assert!(entries.iter().zip(puts).all(|((name, id), put)| (*name, *id) == (BStr::new(put.0), put.1)));
+        assert!(db.puts().unwrap().eq(entries));
+        let behind = image.len() as u32;
+        assert!([0, behind - 7, behind, u32::MAX].iter().all(|offset| db.entry(*offset).is_none()));
+    }
+}
+
+/// Its size is known before a put: it is refused where no image is as large.
+#[test]
+fn the_size_after_a_put() {
+    for flag in [Flag::NONE, Flag::ONEWAY] {
+        let mut writer = MemoryWriter::with_flag(flag);
+        for (name, id) in [("crane", 9), ("mole", 2), ("", 100_000)] {
+            let size = writer.size_with(name.len(), id);
+            writer.put(name, id).unwrap();
+            assert_eq!(writer.clone().finish().unwrap().len() as u64, size);
+        }
+        assert_eq!(writer.size_with(4_294_967_295, 0), u64::MAX);
+        assert!(writer.size_with(4_294_967_294, u32::MAX) < u64::MAX);
+    }
+}
+
+#[test]
 fn the_buffer_grows() {
     let name = |id: u32| format!("prism {id}");
     for flag in [Flag::NONE, Flag::ONEWAY] {

@@ -61,11 +61,18 @@ fn references_before_walls() {
     let why = "pair 2: wall 8 is sighted, and reference 2 is not sighted before\n";
     order("1\n7\n8\n2\n").gives(1).prints(format!("no   the round keeps references before walls: {why}"));
     order("7\n8\n").gives(1).prints("no   the round keeps references before walls: pair 1: wall 7 is sighted, and reference 1 is not sighted before\n");
-    order("").gives(0);
+    let nothing = "no wall of a pair is sighted, so nothing was compared";
+    for round in ["", "1\n2\n", "9\n"] {
+        order(round).gives(0).prints(format!("yes  the round keeps references before walls: {nothing}\n")).tells("");
+    }
     order("1 7\n").gives(2).tells("cqdb: order: standard input, line 1: not a decimal id up to 4294967295: \"1 7\"\n");
     folder.write("pairs", "1 7\n2\n");
     let told = "cqdb: order: pairs, line 2: not the id of a reference, a space and the id of a wall prism: \"2\"\n";
     order("").gives(2).tells(told);
+    folder.write("pairs", "");
+    let none = "no   the round keeps references before walls: there is no pair, so nothing was compared\n";
+    order("1\n7\n").gives(1).prints(none).tells("");
+    order("").gives(1).prints(none).tells("");
 }
 
 #[test]

@@ -139,6 +139,8 @@ fn lines_of_windows() {
         "{}",
         ran.err
     );
+    // The hint names no option that the command does not have.
+    assert!(ran.err.ends_with(": --windows drops it\n"), "{}", ran.err);
     assert!(fs::metadata(folder.0.join("other")).is_err());
 }
 

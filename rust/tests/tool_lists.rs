@@ -155,6 +155,8 @@ fn names_with_spaces_that_are_not_seen() {
         ("north wall\u{feff}", "a letter that is not seen, U+FEFF"),
         ("north \u{1b}wall", "a letter that is not seen, U+001B"),
         ("north \u{202e}wall", "a letter that is not seen, U+202E"),
+        ("north\u{2800}wall", "a letter that is not seen, U+2800"),
+        ("north wall\u{3164}", "a letter that is not seen, U+3164"),
     ] {
         let list = format!("14 {name}\n");
         let told = format!(
@@ -179,6 +181,11 @@ fn names_that_look_like_another() {
         ("NORTHWALL", "north wall"),
         ("Schleuse Süd", "SCHLEUSE SÜD"),
         ("Straße", "straße"),
+        ("Straße", "STRASSE"),
+        ("STRAẞE", "strasse"),
+        ("ΟΔΟΣ", "οδος"),
+        ("crane ⚓", "crane ⚓\u{fe0f}"),
+        ("quay", "qu\u{34f}ay"),
         (
             "a name of more than sixty-four letters, so that its letters are hashed in parts, end",
             "A name of more than sixty-four letters, so that its letters are hashed in parts, END",
@@ -210,6 +217,10 @@ fn names_that_look_like_another() {
     folder.with("1 crane\n2 crane\n3 mole\n", &["make", "--repeats", "image"]).gives(0);
     let ran = folder.with("1 crane\n2 crane\n3 Crane\n", &["make", "--repeats", "image"]).gives(2);
     assert!(ran.err.contains("looks like \"crane\" of line 1"), "{}", ran.err);
+    // A mark that chooses a form is taken where no other name looks like it, and a name of marks alone is blank.
+    folder.image("image", "1 crane \u{2693}\u{fe0f}\n2 mole \u{2693}\n");
+    let ran = folder.with("1 \u{fe0f}\n", &["make", "image"]).gives(2);
+    assert!(ran.err.contains(" is blank: --blank takes it"), "{}", ran.err);
     // Other letters are other names.
-    folder.image("image", "1 wall 1\n2 wall 2\n3 wall l\n4 Wal 1\n");
+    folder.image("image", "1 wall 1\n2 wall 2\n3 wall l\n4 Wal 1\n5 Strase\n6 Straße\n");
 }

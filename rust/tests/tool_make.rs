@@ -121,7 +121,10 @@ fn skipped_lines_are_told_and_counted() {
 fn lists_of_windows_are_noticed_and_named() {
     let folder = Folder::new();
     let ran = folder.with("1 one\n2 two\r\n", &["make", "image"]).gives(2);
-    assert!(ran.err.contains("line 2: a carriage return before the line feed (CR LF)"), "{}", ran.err);
+    let hint = "line 2: a carriage return before the line feed (CR LF): --windows drops it, --zero keeps it\n";
+    assert!(ran.err.ends_with(hint), "{}", ran.err);
+    let ran = folder.with("1,one\n2,two\r\n", &["make", "--csv", "image"]).gives(2);
+    assert!(ran.err.ends_with(": --windows drops it\n"), "{}", ran.err);
     let ran = folder.with("\u{feff}1 one\n", &["make", "image"]).gives(2);
     assert!(ran.err.contains("line 1: a byte order mark (EF BB BF) before the id"), "{}", ran.err);
     let ran = folder.with(b"\xff\xfe1\0 \0a\0\n\0", &["make", "--windows", "image"]).gives(2);

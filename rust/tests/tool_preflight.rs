@@ -286,6 +286,22 @@ fn a_wall_before_its_reference() {
     asked(&folder, &format!("--pairs pairs {LAST}")).gives(1).prints(wanted).tells("");
 }
 
+/// A file without a pair holds the report back; where no wall of a pair is sighted, the yes is seen to be about nothing.
+#[test]
+fn pairs_that_compare_nothing() {
+    let folder = folder();
+    let (question, nothing) = ("the round keeps references before walls", "so nothing was compared");
+    folder.write("pairs", "");
+    let wanted = yes(10) + &format!("yes{SHEET_NAMED}\nno       {question}: there is no pair, {nothing}\n");
+    asked(&folder, &format!("--pairs pairs {LAST}")).gives(1).prints(wanted).tells("");
+    folder.write("pairs", "0 47\n");
+    let ran = asked(&folder, &format!("--pairs pairs {LAST}")).gives(0).tells("");
+    let has = |out: &[u8], text: String| assert!(String::from_utf8_lossy(out).contains(&text), "{text}");
+    has(&ran.out, format!("yes      {question}: no wall of a pair is sighted, {nothing}\n"));
+    let ran = asked(&folder, &format!("--json --pairs pairs {LAST}")).gives(0).tells("");
+    has(&ran.out, format!("\"text\":\"{question}\",\"yes\":true,\"compared\":0}}"));
+}
+
 #[test]
 fn an_unsighted_id_of_the_sheet_without_a_name() {
     let folder = folder();
@@ -441,6 +457,7 @@ fn what_cannot_be_done() {
     folder.write("words", "0\nx\n");
     // The last id may be cut.
     folder.write("cut", "0\n1");
+    folder.write("dos", "0\r\n");
     for (words, told) in [
         ("image", "say --last OLD, the image of the last report, or --first"),
         ("--sheet sheet --round round image", "say --last OLD, the image of the last report, or --first"),
@@ -465,13 +482,17 @@ fn what_cannot_be_done() {
         ("--validity windows --date 2024-02-30 --first --sheet sheet --round round image", "the date asked about"),
         (
             "--validity windows --date 2024-03-01 --last-date 2024-02-30 --last old --sheet sheet --round round image",
-            "the date of the last report: a date does not exist, or is out of bounds (refusal 22)",
+            "the date of the last report, 2024-02-30, is no day of the years 1900 to 2199 (refusal 22)",
         ),
         (
             "--validity windows --date 2024-02-29 --last-date 2024-03-01 --last old --sheet sheet --round round image",
             "the date of the last report is behind that of this one",
         ),
         ("--first --sheet sheet --round words image", "words, line 2: not a decimal id up to 4294967295: \"x\""),
+        (
+            "--first --sheet sheet --round dos image",
+            "dos, line 1: a carriage return before the line feed (CR LF): --windows drops it\n",
+        ),
         ("--first --sheet sheet --round cut image", "cut, line 2: the list ends without a line feed behind \"1\""),
         ("--first --sheet sheet --round", "--round needs its IDS"),
     ] {

@@ -29,7 +29,9 @@ static const char *name_of(uint32_t id) {
 
 /* Puts a name; where there is no room, doubles the buffer and puts it again. */
 static uint32_t put_growing(cqdb_writer *w, uint8_t **buf, size_t *len, uint32_t id, unsigned *grown) {
+    uint64_t size = cqdb_size_with(w, strlen(name_of(id)), id);
     uint32_t refusal = cqdb_put_text(w, *buf, *len, name_of(id), id);
+    expect((refusal == CQDB_NO_ROOM) == (size > *len), "refused exactly where the size after the put exceeds the buffer");
     while (refusal == CQDB_NO_ROOM) {
         uint8_t *larger = realloc(*buf, 2 * *len);
         if (larger == NULL) {
@@ -63,6 +65,7 @@ int main(void) {
     cqdb_writer odd = w;
     odd.mode = 2;
     expect(cqdb_grown(&odd, len + 1) == CQDB_UNFIT && odd.mode == 2 && odd.length == len, "a mode that is neither 0 nor 1 is refused and changes nothing");
+    expect(cqdb_size_with(&w, UINT32_MAX, 0) == UINT64_MAX && cqdb_size_with(&w, UINT32_MAX - 1u, 0) < UINT64_MAX, "a name that fits into no image");
     cqdb_close_answer a = cqdb_close(&w, buf, len);
     cqdb_close_answer b = cqdb_close(&v, large, LARGE);
     expect(a.refusal == 0 && a.size == b.size && memcmp(buf, large, a.size) == 0, "both images are the same");

@@ -43,6 +43,7 @@ static void check_images(void) {
     expect(cqdb_to_str(NULL, 0, 0).found == 0 && cqdb_panel(NULL, 0, 0).found == 0, "to_str and panel");
     expect(cqdb_readings_agree(NULL, 0) == 1, "readings_agree");
     expect(cqdb_size_hint(NULL, 0, 0) == 0 && cqdb_home(NULL, 0, 0) == 0 && cqdb_page_length(NULL, 0) == 0, "hint, home, page");
+    expect(cqdb_entry(NULL, 0, 0).found == 0 && cqdb_entry(NULL, 0, 2072).found == 0 && cqdb_table(NULL, 0, 7).buckets == 0, "entry and table");
     expect(cqdb_begin(&w, CQDB_ONEWAY, NULL, 0) == CQDB_TOO_SHORT, "begin");
     expect(cqdb_put(&w, NULL, 0, NULL, 0, 0) == CQDB_UNFIT, "put");
     expect(cqdb_close(&w, NULL, 0).refusal == CQDB_UNFIT, "close");

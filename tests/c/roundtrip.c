@@ -69,10 +69,31 @@ static void check_names(const uint8_t *image, size_t len) {
     expect(none.found == 0 && none.id == 0 && none.offset == 0, "a name that was never put finds nothing");
 }
 
+/* The entries stand one behind the other, and the tables lead to each of them. */
+static void check_places(const uint8_t *buf, uint32_t size) {
+    uint32_t offset = 2072, walked = 0, led = 0;
+    for (cqdb_entry_answer e; walked < PUTS && (e = cqdb_entry(buf, size, offset)).found; walked++) {
+        expect(e.start == offset + 8u && e.start + e.len < size && buf[e.start + e.len] == 0, "an entry's name, and a zero byte");
+        offset = (uint32_t)(e.start + e.len + 1);
+    }
+    expect(walked == PUTS && cqdb_entry(buf, size, 0).found == 0 && cqdb_entry(buf, size, size).found == 0, "all entries, and none elsewhere");
+    for (uint32_t hash = 0; hash < 256; hash++) {
+        cqdb_table_answer t = cqdb_table(buf, size, hash);
+        expect(cqdb_table(buf, size, hash + 256).start == t.start && t.start + 8u * t.buckets <= size, "a table of the image");
+        for (uint32_t i = 0; i < t.buckets; i++) {
+            const uint8_t *o = buf + t.start + 8 * i + 4;
+            offset = o[0] | (uint32_t)o[1] << 8 | (uint32_t)o[2] << 16 | (uint32_t)o[3] << 24;
+            led += offset > 0 && cqdb_entry(buf, size, offset).found;
+        }
+    }
+    expect(led == PUTS, "a bucket for each entry");
+}
+
 static void check_two_way(cqdb_writer *w, uint8_t *buf, size_t len) {
     uint32_t size = build(w, CQDB_TWOWAY, buf, len);
     expect(size == SIZE_TWOWAY, "the two-way image's size");
     check_names(buf, size);
+    check_places(buf, size);
     expect(gives(buf, size, 0, "C"), "id 0 gives the name of its last put");
     expect(gives(buf, size, 1, ""), "id 1 gives the empty name");
     expect(gives(buf, size, 2, "prism 7") && gives(buf, size, 3, "B"), "ids 2 and 3 give their names");

@@ -71,10 +71,27 @@ impl Run {
         let is_canonical = archive::canonical(image);
         self.tally.rule(is_canonical <= u32::from(refusal == 0), true, || format!("canonical gave {is_canonical}"));
         self.calls += 3 + names.len() as u64 + 4 * ids.len() as u64;
+        self.places(random, image);
         self.one_to_one(image, is_canonical);
         self.average(random, image, is_canonical);
         self.page(random, image);
         self.whole_round(random, image, names, &ids);
+    }
+
+    // The entry at any offset and the table of any hash, by their rules.
+    fn places(&mut self, random: &mut Random, image: &[u8]) {
+        let len = image.len() as u32;
+        for offset in [0, 1, HEAD as u32, len.wrapping_sub(9), len, random.word(), random.below(image.len() + 1) as u32] {
+            let answer = archive::entry(image, offset);
+            let due = rules::entry(image, offset).map_or((0, 0, 0, 0), |(id, (start, n))| (1, id, n as u32, start as u64));
+            self.tally.rule((answer.found, answer.id, answer.len, answer.start), due, || format!("the entry at {offset}"));
+        }
+        for hash in [0, 255, random.word(), random.word()] {
+            let answer = archive::table(image, hash);
+            let due = rules::table_of(image, hash).unwrap_or((0, 0));
+            self.tally.rule((answer.buckets.into(), answer.start.into()), due, || format!("the table of {hash}"));
+        }
+        self.calls += 11;
     }
 
     // A whole round of these names, and of these ids, each some times over, with ends that may be anything and places that may be too
@@ -360,7 +377,14 @@ impl Run {
         let due = if fine { (0, archive::Record { length, ..s.record }) } else { (2, s.record) };
         self.tally.rule((grown.refusal, grown.record), due, || format!("{grown:?} for {length} bytes"));
         self.refused += u64::from(grown.refusal > 0);
-        self.calls += 1;
+        let (n, id) = (random.pick(&[0, 9, 4_294_967_294, 4_294_967_295, usize::MAX]), random.pick(&[0, 9, u32::MAX]));
+        let size = archive::size_with(&s.record, n, id);
+        let some = s.record.end < 1 << 63 && n < 4_294_967_295;
+        // A mode other than 0 is taken as one-way.
+        let known = Record { mode: s.record.mode.min(1), ..s.record };
+        let due = if some { writing::size_with(&known, n, id) } else { u64::MAX.into() };
+        self.tally.rule(u128::from(size), due, || format!("the size with {n} bytes and {id} after {:?}", s.record));
+        self.calls += 2;
     }
 
     // A put by slots of any words, and an index made in them.

@@ -139,6 +139,20 @@ pub fn to_id_by(hash: fn(&[u8]) -> u32, image: &[u8], name: &[u8]) -> Lookup {
     Lookup { buckets: n as u32, unending: true, ..nothing }
 }
 
+/// The entry at an offset: its id and the place of its name.
+#[allow(dead_code)]
+pub fn entry(image: &[u8], offset: u32) -> Option<(u32, (usize, usize))> {
+    let place = entry_name(image, offset.into()).filter(|_| offset > 0)?;
+    Some((word(image, offset as usize), place))
+}
+
+/// The table in which a hash is sought: its number of buckets and its offset; none where no bucket is read.
+#[allow(dead_code)]
+pub fn table_of(image: &[u8], h: u32) -> Option<(u64, u64)> {
+    let (offset, number) = (image.len() >= HEAD).then(|| table(image, h as usize % 256))?;
+    (offset > 0 && number > 0 && !table_leaves(image, (offset, number))).then_some((number, offset))
+}
+
 /// Naming an id: the place of the name.
 pub fn to_str(image: &[u8], id: u32) -> Option<(usize, usize)> {
     if image.len() < HEAD || back_offset(image) == 0 || back_leaves(image) || id as u64 >= back_size(image) {

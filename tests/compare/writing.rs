@@ -71,13 +71,21 @@ pub fn put_record(s: &State, name: &[u8], id: u32) -> Result<Record, u32> {
         earlier(s, name)?;
     }
     let r = s.record;
-    let end = r.end as u128 + name.len() as u128 + 9;
-    let entries = r.entries as u128 + 1;
-    let back = if oneway(&r) { r.back as u128 } else { (r.back as u128).max(id as u128 + 1) };
-    if too_large(s, finished(oneway(&r), end, entries, back)) {
+    if too_large(s, size_with(&r, name.len(), id)) {
         return Err(3);
     }
-    Ok(Record { end: end as u64, entries: entries as u32, back: back as u32, ..r })
+    let back = back_with(&r, id) as u32;
+    Ok(Record { end: r.end + name.len() as u64 + 9, entries: r.entries + 1, back, ..r })
+}
+
+// The back size after a put.
+fn back_with(r: &Record, id: u32) -> u128 {
+    if oneway(r) { r.back as u128 } else { (r.back as u128).max(id as u128 + 1) }
+}
+
+/// The finished size after a put of an id and a name of this length.
+pub fn size_with(r: &Record, name_len: usize, id: u32) -> u128 {
+    finished(oneway(r), r.end as u128 + name_len as u128 + 9, r.entries as u128 + 1, back_with(r, id))
 }
 
 /// What a put leaves: one more entry and the counts raised; or its refusal.

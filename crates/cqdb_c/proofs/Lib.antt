@@ -3,3 +3,4 @@ pub mod CCalls
 pub mod GrownCalls
 pub mod InPlace
 pub mod ShortPlaces
+pub mod Sizes

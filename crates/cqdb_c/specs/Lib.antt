@@ -4,3 +4,4 @@ pub mod Hash
 pub mod ReadAnswers
 pub mod Writing
 pub mod Grown
+pub mod SizeWith

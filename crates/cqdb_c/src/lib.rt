@@ -5,4 +5,5 @@ pub mod version; // version.rt: cqdb_version_number
 pub mod hash; // hash.rt: cqdb_hash
 pub mod opening; // opening.rt: cqdb_open
 pub mod naming; // naming.rt: cqdb_to_str, cqdb_panel, cqdb_readings_agree, cqdb_size_hint, cqdb_home
-pub mod writing; // writing.rt: cqdb_begin_parts, cqdb_put_parts, cqdb_close_parts, cqdb_grown_parts
+// writing.rt: cqdb_begin_parts, cqdb_put_parts, cqdb_close_parts, cqdb_grown_parts, cqdb_size_with_parts
+pub mod writing;

@@ -9,6 +9,7 @@ use writer::c_record::writer_of;
 use writer::numbers::mode_of;
 use writer::numbers::repeats_of;
 use writer::numbers::valid_numbers;
+use writer::record::size_with;
 ghost use mathlib.Core.Path.{_≡_};
 ghost use lib.ListN.{length};
 ghost use Rattle.writer.specs.Put.{entryOf};
@@ -17,6 +18,7 @@ ghost use Rattle.writer.specs.CRecord.{recordIn, lentState};
 ghost use Rattle.cqdb_c.specs.Writing.{beginningOf, numberIn, lentWriter, leftByBegin, putNumber, leftByPut};
 ghost use Rattle.cqdb_c.specs.Writing.{closingOf, refusalIn, sizeIn, leftByClose};
 ghost use Rattle.cqdb_c.specs.Grown.{grownNumber, recordGrown};
+ghost use Rattle.cqdb_c.specs.SizeWith.{sizeWith};
 
 // What close answers: the refusal's number, 0 when accepted; the image's size, 0 when refused.
 #[repr(C)]
@@ -183,4 +185,24 @@ pub extern "C" fn cqdb_grown_parts(numbers: &[u32; 4], sizes: &mut [u64; 2], lon
     let after = done.writer;
     sizes[0] = after.length;
     done.refusal
+}
+
+// The finished size after a put of an id and a name of n bytes; the largest number where no image is as large.
+#[no_mangle]
+pub extern "C" fn cqdb_size_with_parts(
+    numbers: &[u32; 4],
+    sizes: &[u64; 2],
+    n: usize,
+    id: u32,
+) -> u64
+    ensures { λ r. ⌜ r ≡ sizeWith (recordIn (now (numbers .entry)) (now (sizes .entry))) n id ⌝ }
+{
+    let w = record_in(numbers, sizes);
+    if 9223372036854775808 <= w.end {
+        return 18446744073709551615;
+    }
+    if 4294967295 <= n {
+        return 18446744073709551615;
+    }
+    size_with(writer_of(w), n, id)
 }

@@ -1,3 +1,4 @@
 -- Laws for the exports.
 pub mod ShortNames
 pub mod Answers
+pub mod Places

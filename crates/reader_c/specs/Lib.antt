@@ -5,3 +5,4 @@ pub mod PageAnswer
 pub mod Bundle
 pub mod NameOnAnswer
 pub mod ChangeAnswers
+pub mod LayoutAnswers

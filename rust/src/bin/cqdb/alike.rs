@@ -12,7 +12,7 @@ pub const BLANK: Opt = Opt::plain("--blank", "take names that are empty, or of s
 
 /// Is nothing of the name seen?
 pub fn is_blank(name: &[u8]) -> bool {
-    letters::of(name).all(|letter| !is_seen(text_of(letter)))
+    seen(name).next().is_none()
 }
 
 /// What of a name is not seen, in words: spaces at its ends or together, and white space or controls other than a space.
@@ -51,19 +51,37 @@ fn text_of(letter: Letter) -> char {
     }
 }
 
-/// White space, controls, and letters of no width are not seen.
+/// White space, controls, letters of no width and fillers are not seen.
 fn is_seen(letter: char) -> bool {
     if letter.is_ascii() {
         return letter.is_ascii_graphic();
     }
     let no_width =
         matches!(letter, '\u{ad}' | '\u{180e}' | '\u{200b}'..='\u{200f}' | '\u{2060}'..='\u{2064}' | '\u{feff}');
-    !(letter.is_whitespace() || no_width || letters::is_obeyed(letter))
+    let filler = matches!(letter, '\u{115f}' | '\u{1160}' | '\u{2800}' | '\u{3164}' | '\u{ffa0}');
+    !(letter.is_whitespace() || no_width || filler || letters::is_obeyed(letter))
 }
 
-/// What names that look alike have in common: the letters that are seen, in lower case.
+/// Marks of no width that choose the form of the letter before, or join it with the next: names of emoji have them, so they are
+/// taken, but two names that differ in them alone look alike.
+fn is_mark(letter: char) -> bool {
+    let selector = matches!(letter, '\u{180b}'..='\u{180d}' | '\u{fe00}'..='\u{fe0f}' | '\u{e0100}'..='\u{e01ef}');
+    selector || letter == '\u{34f}'
+}
+
+/// The letters of a name by which people tell it from others.
+fn seen(name: &[u8]) -> impl Iterator<Item = char> + '_ {
+    letters::of(name).map(text_of).filter(|letter| is_seen(*letter) && !is_mark(*letter))
+}
+
+/// A letter whatever its case. In upper case ß is SS.
+fn caseless(letter: char) -> impl Iterator<Item = char> {
+    letter.to_lowercase().flat_map(char::to_uppercase).flat_map(char::to_lowercase)
+}
+
+/// What names that look alike have in common.
 fn folded(name: &[u8]) -> impl Iterator<Item = char> + '_ {
-    letters::of(name).map(text_of).filter(|letter| is_seen(*letter)).flat_map(char::to_lowercase)
+    seen(name).flat_map(caseless)
 }
 
 /// The names that were put, each with its place among the puts.
@@ -111,11 +129,18 @@ impl Names {
         let mut hasher = self.hashes.build_hasher();
         // Some letters at once are hashed faster than each alone.
         let (mut part, mut filled) = ([0; 64], 0);
-        for letter in folded(name) {
+        let mut add = |letter: char| {
             filled += letter.encode_utf8(&mut part[filled..]).len();
             if filled > 60 {
                 hasher.write(&part[..filled]);
                 filled = 0;
+            }
+        };
+        // The same as over `folded`; most letters are ASCII.
+        for letter in seen(name) {
+            match letter.is_ascii() {
+                true => add(letter.to_ascii_lowercase()),
+                false => caseless(letter).for_each(&mut add),
             }
         }
         hasher.write(&part[..filled]);

@@ -17,6 +17,8 @@ pub struct Asked {
 
 pub enum Said {
     Yes,
+    /// Yes, since nothing was there to compare: why.
+    YesAboutNothing(&'static str),
     /// No: what breaks it, and the numbers that show it with their names.
     No(String, Vec<(&'static str, u64)>),
     /// An earlier question fails, so it is not known.
@@ -29,41 +31,65 @@ impl From<Result<(), String>> for Said {
     }
 }
 
+impl Said {
+    pub fn is_yes(&self) -> bool {
+        matches!(self, Said::Yes | Said::YesAboutNothing(_))
+    }
+
+    /// The answer in a word.
+    pub fn word(&self) -> &'static str {
+        match self {
+            Said::Yes | Said::YesAboutNothing(_) => "yes",
+            Said::No(..) => "no",
+            Said::NotAsked => "-",
+        }
+    }
+
+    /// What is said behind the question.
+    pub fn why(&self) -> String {
+        match self {
+            Said::Yes => String::new(),
+            Said::YesAboutNothing(why) => format!(": {why}"),
+            Said::No(breaks, _) => format!(": {breaks}"),
+            Said::NotAsked => ": not asked".to_string(),
+        }
+    }
+}
+
 impl Asked {
     /// A question of the tool's own.
-    pub fn own(question: &'static str, answer: Result<(), String>) -> Asked {
+    pub fn own(question: &'static str, answer: impl Into<Said>) -> Asked {
         Asked { position: None, number: None, question, said: answer.into() }
     }
 
     pub fn is_yes(&self) -> bool {
-        matches!(self.said, Said::Yes)
+        self.said.is_yes()
     }
 
     fn line(&self) -> String {
         let position = self.position.map_or(String::new(), |position| format!("{position} "));
         let number = self.number.map_or(String::new(), |number| number.to_string());
-        let (answer, breaks) = match &self.said {
-            Said::Yes => ("yes", String::new()),
-            Said::No(breaks, _) => ("no", format!(": {breaks}")),
-            Said::NotAsked => ("-", ": not asked".to_string()),
-        };
-        format!("{position}{answer:<3}  {number:>2}  {}{breaks}", self.question)
+        format!("{position}{:<3}  {number:>2}  {}{}", self.said.word(), self.question, self.said.why())
     }
 
     fn json(&self, out: &mut Output) -> Result<(), Failure> {
         let position = self.position.map_or(String::new(), |position| format!("\"position\":{position},"));
         let number = self.number.map_or("null".to_string(), |number| number.to_string());
         let yes = match self.said {
-            Said::Yes => "true",
+            Said::Yes | Said::YesAboutNothing(_) => "true",
             Said::No(..) => "false",
             Said::NotAsked => "null",
         };
         let text = self.question;
         out.bytes(format!("{{{position}\"question\":{number},\"text\":\"{text}\",\"yes\":{yes}").as_bytes())?;
-        if let Said::No(breaks, numbers) = &self.said {
-            out.bytes(b",\"breaks\":")?;
-            json::quoted(out, breaks.as_bytes())?;
-            numbers.iter().try_for_each(|(name, number)| out.bytes(format!(",\"{name}\":{number}").as_bytes()))?;
+        match &self.said {
+            Said::No(breaks, numbers) => {
+                out.bytes(b",\"breaks\":")?;
+                json::quoted(out, breaks.as_bytes())?;
+                numbers.iter().try_for_each(|(name, number)| out.bytes(format!(",\"{name}\":{number}").as_bytes()))?;
+            }
+            Said::YesAboutNothing(_) => out.bytes(b",\"compared\":0")?,
+            Said::Yes | Said::NotAsked => {}
         }
         out.bytes(b"}\n")
     }

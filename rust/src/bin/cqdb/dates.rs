@@ -58,7 +58,7 @@ impl Windows {
     pub fn hold_both(&self, last: Date, round: &[u32]) -> Result<cqdb::PreflightDates, Failure> {
         // Windows and date were accepted before, so a refusal is about the other date.
         cqdb::preflight_dates(&self.list, round, last, self.date).map_err(|refusal| {
-            Failure::new(format!("the date of the last report: {}", files::refusal_in_words(refusal)))
+            Failure::new(format!("the date of the last report, {}, {}", shown(last), no_day(refusal)))
         })
     }
 }

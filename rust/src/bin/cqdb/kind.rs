@@ -15,9 +15,7 @@ impl Kind {
     pub fn may_replace(self, bytes: &[u8]) -> bool {
         match self {
             _ if bytes.is_empty() => true,
-            Kind::Image => {
-                bytes.starts_with(LETTERS) && size_word(bytes).map_or(true, |size| size >= bytes.len() as u64)
-            }
+            Kind::Image => bytes.starts_with(LETTERS) && size_word(bytes).map_or(true, |size| size >= bytes.len()),
             Kind::Sheet => Sheet::read(bytes).is_ok(),
         }
     }
@@ -50,8 +48,8 @@ impl Kind {
 const LETTERS: &[u8] = b"CQDB";
 
 /// How many bytes an image says that it has; none where the bytes end before that.
-fn size_word(bytes: &[u8]) -> Option<u64> {
-    Some(u32::from_le_bytes(bytes.get(4..8)?.try_into().ok()?).into())
+fn size_word(bytes: &[u8]) -> Option<usize> {
+    Bundle::new(bytes).first_size().map(|size| size as usize)
 }
 
 /// What stands in a file behind its first image.
@@ -67,11 +65,11 @@ pub enum Images {
 
 /// How many images a file has. The bytes behind the first image are looked at only where the file is longer than it.
 pub fn images(bytes: &[u8]) -> Images {
-    let Some(size) = size_word(bytes).filter(|size| *size < bytes.len() as u64) else { return Images::One };
+    let Some(size) = size_word(bytes).filter(|size| *size < bytes.len()) else { return Images::One };
     match Bundle::new(bytes).count() {
         Ok(0 | 1) => Images::One,
         Ok(images) => Images::Several(images),
-        Err(_) if bytes[size as usize..].starts_with(LETTERS) => Images::Broken,
+        Err(_) if bytes[size..].starts_with(LETTERS) => Images::Broken,
         Err(_) => Images::One,
     }
 }

@@ -152,9 +152,7 @@ pub fn without_windows<'a>(args: &Args, number: u64, line: &'a [u8]) -> Result<&
 impl fmt::Display for OfWindows {
     fn fmt(&self, f: &mut fmt::Formatter<'_>) -> fmt::Result {
         f.write_str(match self {
-            OfWindows::CarriageReturn => {
-                "a carriage return before the line feed (CR LF): --windows drops it, --zero keeps it"
-            }
+            OfWindows::CarriageReturn => "a carriage return before the line feed (CR LF): --windows drops it",
             OfWindows::ByteOrderMark => "a byte order mark (EF BB BF) before the id: --windows passes over it",
             OfWindows::Utf16 => "the byte order mark of UTF-16: convert the list to UTF-8",
         })

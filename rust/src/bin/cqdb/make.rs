@@ -175,7 +175,7 @@ fn row(lines: &mut Lines) -> Result<Option<(u64, &[u8])>, Failure> {
 }
 
 fn of_row<'a>(args: &Args, number: u64, row: &'a [u8]) -> Put<'a> {
-    let row = lines::without_windows(args, number, row).map_err(Problem::OfWindows)?;
+    let row = lines::without_windows(args, number, row).map_err(|what| Problem::OfWindows(what, false))?;
     let form = "a decimal id up to 4294967295, a comma and a name as RFC 4180 quotes it";
     let other = || Problem::Row { form, row: lines::shown(row) };
     let (id, name) = csv::two_fields(row).ok_or_else(other)?;
@@ -183,7 +183,8 @@ fn of_row<'a>(args: &Args, number: u64, row: &'a [u8]) -> Put<'a> {
 }
 
 fn of_line<'a>(args: &Args, layout: Layout, number: u64, line: &'a [u8]) -> Put<'a> {
-    let line = lines::without_windows(args, number, line).map_err(Problem::OfWindows)?;
+    let is_plain = matches!(layout, Layout::Plain);
+    let line = lines::without_windows(args, number, line).map_err(|what| Problem::OfWindows(what, is_plain))?;
     match layout {
         Layout::Json => {
             let (id, name) =

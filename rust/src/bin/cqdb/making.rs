@@ -20,9 +20,6 @@ pub const SPARSE: Opt = Opt::plain("--sparse", "an image with more than 64 MB fo
 const EMPTY: u64 = 64 << 20;
 /// The size of the largest image.
 const LIMIT: u64 = u32::MAX as u64;
-/// An entry has 9 bytes beside its name, and 16 in its table.
-const ENTRY: u64 = 9 + 16;
-const HEAD: u64 = 2_072;
 
 pub struct Making {
     writer: MemoryWriter,
@@ -36,7 +33,7 @@ pub struct Making {
     hashes: HashMap<u32, u32>,
     /// The names, where none may look like another.
     names: Option<Names>,
-    /// The size of the image without its back array.
+    /// The size of the finished image after the puts so far; none before the first.
     size: u64,
     /// The largest id, and the line that put it first.
     largest: Option<(u32, u64)>,
@@ -70,7 +67,7 @@ impl Making {
             places: HashMap::new(),
             hashes: HashMap::new(),
             names: (!args.has(&ALIKE)).then(Names::default),
-            size: HEAD,
+            size: 0,
             largest: None,
         }
     }
@@ -89,15 +86,14 @@ impl Making {
             _ => {}
         }
         let look = self.can_be_told(name)?;
-        let size = self.size + name.len() as u64 + ENTRY;
+        let size = self.writer.size_with(name.len(), id);
         let largest = self.largest.filter(|(largest, _)| *largest >= id).unwrap_or((id, number));
-        let back = self.back(largest.0);
         let room = self.lines.try_reserve(1).is_ok()
             && self.places.try_reserve(1).is_ok()
             && self.hashes.try_reserve(1).is_ok()
             && self.names.as_mut().map_or(true, |names| names.reserve(name));
         let put = if room { self.writer.put(name, id) } else { Err(Refusal::NoRoom) };
-        let whole = Size { bytes: size + back, largest: (back > 0).then_some(largest.0) };
+        let whole = Size { bytes: size, largest: (!self.options.one_way).then_some(largest.0) };
         put.map_err(|refusal| match refusal {
             Refusal::NoRoom if whole.bytes > LIMIT => Problem::NoRoom(whole),
             // The archive would take it.
@@ -149,20 +145,12 @@ impl Making {
         format!("{} {}", self.unit, self.lines[place as usize])
     }
 
-    /// The bytes of the array that names the ids up to one.
-    fn back(&self, largest: u32) -> u64 {
-        if self.options.one_way {
-            0
-        } else {
-            4 * (u64::from(largest) + 1)
-        }
-    }
-
-    /// The line whose id leaves too many ids without a name, where that was not asked for.
+    /// The line whose id leaves too many ids without a name, where that was not asked for. The array that names the ids has four
+    /// bytes for each.
     pub fn sparse(&self) -> Option<(u64, Problem)> {
-        let (id, line) = self.largest.filter(|_| !self.options.sparse)?;
-        let empty = self.back(id).saturating_sub(4 * self.places.len() as u64);
-        (empty > EMPTY).then(|| (line, Problem::Sparse { id, size: self.size + self.back(id), empty }))
+        let (id, line) = self.largest.filter(|_| !self.options.sparse && !self.options.one_way)?;
+        let empty = 4 * (u64::from(id) + 1).saturating_sub(self.places.len() as u64);
+        (empty > EMPTY).then_some((line, Problem::Sparse { id, size: self.size, empty }))
     }
 
     /// The finished image.

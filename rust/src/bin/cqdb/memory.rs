@@ -82,6 +82,7 @@ impl Kept {
         }
         // The walk of that call came to the image, so each size word up to it lies in the file.
         let mut rest = self.bytes();
+        let size_of = |image| Bundle::new(image).first_size().expect("the walk came behind it") as usize;
         for _ in 0..position {
             rest = &rest[size_of(rest)..];
         }
@@ -116,9 +117,4 @@ impl Kept {
 
 fn opened(path: &Path) -> Result<File, Failure> {
     File::open(path).map_err(|error| files::cannot_read(path, error))
-}
-
-/// The size word of an image.
-fn size_of(image: &[u8]) -> usize {
-    u32::from_le_bytes([image[4], image[5], image[6], image[7]]) as usize
 }

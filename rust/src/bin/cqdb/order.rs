@@ -4,7 +4,7 @@ use std::path::Path;
 use cqdb::{references_first, Order, Pair};
 
 use crate::args::{Args, Command, WINDOWS};
-use crate::check;
+use crate::asked::Said;
 use crate::input::INCOMPLETE;
 use crate::lines::{self, Lines};
 use crate::outcome::{Failure, Outcome, Output};
@@ -18,7 +18,8 @@ Prints a line: yes or no. PAIRS has a line for each pair, the id of a reference,
 space and the id of a wall prism; ROUND has an id to a line, in the order in which
 they are sighted. A pair is kept where its wall prism is not sighted, or its
 reference is sighted before. The exit status is 1 where a pair is not kept; the
-first one is named.
+first one is named. It is 1 too where there is no pair: a yes about nothing is none.
+Where no wall prism of a pair is sighted, the line says that nothing was compared.
 ",
     options: &[INCOMPLETE, WINDOWS],
     operands: (2, 2),
@@ -28,8 +29,9 @@ first one is named.
 fn run(args: Args) -> Outcome {
     let (pairs, round) = (pairs(&args, args.path(0))?, lines::ids(&args, args.path(1))?);
     let mut out = Output::new();
-    let kept = check::line(&mut out, &kept(&pairs, &round), QUESTION)?;
-    out.finish(kept)
+    let said = kept(&pairs, &round);
+    out.text(&format!("{:<3}  {QUESTION}{}", said.word(), said.why()))?;
+    out.finish(said.is_yes())
 }
 
 /// The question whose answer `kept` gives.
@@ -45,13 +47,18 @@ pub fn pairs(args: &Args, path: &Path) -> Result<Vec<Pair>, Failure> {
     Lines::of_list(args, Some(path.as_os_str()), b'\n')?.parsed(args, form, pair)
 }
 
-/// Why a round does not keep every pair.
-pub fn kept(pairs: &[Pair], round: &[u32]) -> Result<(), String> {
+/// Does a round keep every pair? Not where there is none to keep; and where no wall of a pair is sighted, the yes says so.
+pub fn kept(pairs: &[Pair], round: &[u32]) -> Said {
+    let no = |why: String| Said::No(why, Vec::new());
     match references_first(pairs, round) {
-        Order::Yes => Ok(()),
+        Order::Yes if pairs.is_empty() => no("there is no pair, so nothing was compared".to_string()),
+        Order::Yes => match pairs.iter().any(|pair| round.contains(&pair.wall)) {
+            true => Said::Yes,
+            false => Said::YesAboutNothing("no wall of a pair is sighted, so nothing was compared"),
+        },
         Order::Fails { pair } => {
             let Pair { reference, wall } = pairs[pair];
-            Err(format!("pair {}: wall {wall} is sighted, and reference {reference} is not sighted before", pair + 1))
+            no(format!("pair {}: wall {wall} is sighted, and reference {reference} is not sighted before", pair + 1))
         }
     }
 }

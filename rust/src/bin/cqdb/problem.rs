@@ -27,7 +27,8 @@ pub enum Problem {
     },
     /// The data of a record is no id.
     Data(String),
-    OfWindows(OfWindows),
+    /// What Windows adds, and whether `--zero` would keep it: lines alone may end with a zero byte, not rows or objects.
+    OfWindows(OfWindows, bool),
     /// The id was put before, by the line that is named.
     IdAgain {
         id: u32,
@@ -76,8 +77,8 @@ impl Problem {
             }
             Problem::Blank(_) => "with a blank name".to_string(),
             Problem::Unseen { .. } | Problem::Alike { .. } => "with a name that looks like others".to_string(),
-            Problem::OfWindows(OfWindows::CarriageReturn) => "with a carriage return".to_string(),
-            Problem::OfWindows(_) => "with a byte order mark".to_string(),
+            Problem::OfWindows(OfWindows::CarriageReturn, _) => "with a carriage return".to_string(),
+            Problem::OfWindows(..) => "with a byte order mark".to_string(),
             Problem::IdAgain { .. } => "with an id again".to_string(),
             Problem::NameAgain { .. } => format!("refused with {}", Refusal::Repeated.number()),
             Problem::NoRoom(_) => format!("refused with {}", Refusal::NoRoom.number()),
@@ -109,7 +110,8 @@ impl fmt::Display for Problem {
             Problem::Row { form, row } => write!(f, "not {form}: {row}"),
             Problem::Object { what, line } => write!(f, "not an object with an id and a name, but {what}: {line}"),
             Problem::Data(data) => write!(f, "the data {data} is no decimal id up to 4294967295"),
-            Problem::OfWindows(what) => what.fmt(f),
+            Problem::OfWindows(what @ OfWindows::CarriageReturn, true) => write!(f, "{what}, --zero keeps it"),
+            Problem::OfWindows(what, _) => what.fmt(f),
             Problem::IdAgain { id, before } => {
                 write!(f, "id {id} was put by {before}: --renamed takes the later name")
             }

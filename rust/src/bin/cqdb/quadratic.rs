@@ -22,22 +22,20 @@ pub fn tell_of(db: &CQDB, command: &str) {
     tell(command, equal_hashes(db).unwrap_or(0));
 }
 
-/// The largest number of entries of a table that have the same hash; none where no table is large.
+/// The largest number of entries that have the same hash; none where no table has many entries.
 fn equal_hashes(db: &CQDB) -> Option<u64> {
-    const ROWS: usize = 24;
-    const LARGE: usize = 20_000;
-    let bytes = db.bytes();
-    let word = |at: usize| bytes.get(at..at + 4).map(|word| u32::from_le_bytes([word[0], word[1], word[2], word[3]]));
-    let run = |table: usize| -> Option<u64> {
-        let (start, buckets) = (word(ROWS + 8 * table)? as usize, word(ROWS + 8 * table + 4)? as usize);
-        let part = bytes.get(start..start.checked_add(buckets.checked_mul(8)?)?).filter(|_| buckets >= LARGE)?;
-        let filled = part.chunks_exact(8).filter(|bucket| bucket[4..] != [0; 4]);
+    let run = |table: u32| -> Option<u64> {
+        let filled = db.buckets(table).count();
+        if (filled as u64) < MANY {
+            return None;
+        }
         let mut hashes: Vec<u32> = Vec::new();
-        hashes.try_reserve(buckets).ok()?;
-        hashes.extend(filled.map(|bucket| u32::from_le_bytes([bucket[0], bucket[1], bucket[2], bucket[3]])));
+        hashes.try_reserve(filled).ok()?;
+        hashes.extend(db.buckets(table).map(|(hash, _)| hash));
         hashes.sort_unstable();
         Some(longest_run(&hashes))
     };
+    // The table of a hash is that of its lowest byte.
     (0..256).filter_map(run).max()
 }
 

@@ -34,9 +34,7 @@ fn run(args: Args) -> Outcome {
 }
 
 fn numbers(db: &CQDB, out: &mut Output) -> Outcome {
-    let bytes = db.bytes();
-    let word = |at: usize| u32::from_le_bytes(bytes[at..at + 4].try_into().expect("an opened image has a head"));
-    let mode = match word(8) {
+    let mode = match db.flag_word() {
         0 => "two-way".to_string(),
         1 => "one-way".to_string(),
         flag => format!("unknown flag word {flag}"),
@@ -45,8 +43,8 @@ fn numbers(db: &CQDB, out: &mut Output) -> Outcome {
     let named = (0..back).filter(|id| db.to_str(*id).is_some()).count() as u32;
     let lines = [
         ("num", db.num().to_string()),
-        ("size", word(4).to_string()),
-        ("file", bytes.len().to_string()),
+        ("size", db.size_word().to_string()),
+        ("file", db.bytes().len().to_string()),
         ("mode", mode),
         ("back-size", back.to_string()),
         ("named", named.to_string()),
