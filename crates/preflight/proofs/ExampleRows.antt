@@ -73,7 +73,8 @@ holds r (old-made, new-made, answered) =
     ∙ answered
 
 changed-computed : All Computed changedRows
-unfolding entriesSize backSize hasZero filter same cat le32 word ofId allStorable storable countAt countBytes ids idBytes sectionBytes sheetBytes sectionAt sections readSheet readLists occurs passing firstPlace firstShared someKept firstTaken offSheet ofRound
+unfolding entriesSize backSize hasZero filter same cat le32 word ofId allStorable storable countAt countBytes ids idBytes sectionBytes
+    sheetBytes sectionAt sections readSheet readLists occurs passing firstPlace firstShared someKept firstTaken offSheet ofRound
 changed-computed = (
   (refl, refl, refl),
   ((refl, refl, refl), ((refl, refl, refl), ((refl, refl, refl), ((refl, refl, refl), ((refl, refl, refl), ((refl, refl, refl), ((refl, refl, refl), tt))))))),
@@ -83,7 +84,8 @@ pub changed-hold : All RowAnswered changedRows
 changed-hold = all-map holds changedRows changed-computed
 
 exchanged-computed : All Computed exchangedRows
-unfolding entriesSize backSize hasZero filter same cat le32 word ofId allStorable storable countAt countBytes ids idBytes sectionBytes sheetBytes sectionAt sections readSheet readLists occurs passing firstPlace firstShared someKept firstTaken offSheet ofRound
+unfolding entriesSize backSize hasZero filter same cat le32 word ofId allStorable storable countAt countBytes ids idBytes sectionBytes
+    sheetBytes sectionAt sections readSheet readLists occurs passing firstPlace firstShared someKept firstTaken offSheet ofRound
 exchanged-computed = (
   (refl, refl, refl),
   ((refl, refl, refl), ((refl, refl, refl), ((refl, refl, refl), ((refl, refl, refl), ((refl, refl, refl), ((refl, refl, refl), ((refl, refl, refl), tt))))))),
@@ -93,14 +95,16 @@ pub exchanged-hold : All RowAnswered exchangedRows
 exchanged-hold = all-map holds exchangedRows exchanged-computed
 
 round-computed : All Computed roundRows
-unfolding entriesSize backSize hasZero filter same cat le32 word ofId allStorable storable countAt countBytes ids idBytes sectionBytes sheetBytes sectionAt sections readSheet readLists occurs passing firstPlace firstShared someKept firstTaken offSheet ofRound
+unfolding entriesSize backSize hasZero filter same cat le32 word ofId allStorable storable countAt countBytes ids idBytes sectionBytes
+    sheetBytes sectionAt sections readSheet readLists occurs passing firstPlace firstShared someKept firstTaken offSheet ofRound
 round-computed = ((refl, refl, refl), ((refl, refl, refl), ((refl, refl, refl), ((refl, refl, refl), ((refl, refl, refl), ((refl, refl, refl), tt))))))
 
 pub round-hold : All RowAnswered roundRows
 round-hold = all-map holds roundRows round-computed
 
 sheet-computed : All Computed sheetRows
-unfolding entriesSize backSize hasZero filter same cat le32 word ofId allStorable storable countAt countBytes ids idBytes sectionBytes sheetBytes sectionAt sections readSheet readLists occurs passing firstPlace firstShared someKept firstTaken offSheet ofRound
+unfolding entriesSize backSize hasZero filter same cat le32 word ofId allStorable storable countAt countBytes ids idBytes sectionBytes
+    sheetBytes sectionAt sections readSheet readLists occurs passing firstPlace firstShared someKept firstTaken offSheet ofRound
 sheet-computed = ((refl, refl, refl), ((refl, refl, refl), ((refl, refl, refl), ((refl, refl, refl), ((refl, refl, refl), tt)))))
 
 pub sheet-hold : All RowAnswered sheetRows

@@ -53,7 +53,8 @@ unfolding hasZero
 each = (record { free = refl; id-word = lit< tt }, (record { free = refl; id-word = lit< tt }, tt))
 
 fits : (mode : Mode) → imageSize mode puts ≤ 4294967295
-unfolding entriesSize backSize hasZero filter same cat le32 word ofId countAt countBytes ids idBytes sectionBytes sheetBytes sectionAt sections readSheet readLists occurs passing firstPlace firstShared offSheet ofRound
+unfolding entriesSize backSize hasZero filter same cat le32 word ofId countAt countBytes ids idBytes sectionBytes sheetBytes sectionAt
+    sections readSheet readLists occurs passing firstPlace firstShared offSheet ofRound
 fits Twoway = lit≤ tt
 fits Oneway = lit≤ tt
 
@@ -74,11 +75,13 @@ abbrev round : List ℕ
 round = 1 ∷ 2 ∷ []
 
 first-yes : verdictFirst thisWeek listed round ≡ Yes
-unfolding entriesSize backSize hasZero filter same cat le32 word ofId countAt countBytes ids idBytes sectionBytes sheetBytes sectionAt sections readSheet readLists occurs passing firstPlace firstShared offSheet ofRound
+unfolding entriesSize backSize hasZero filter same cat le32 word ofId countAt countBytes ids idBytes sectionBytes sheetBytes sectionAt
+    sections readSheet readLists occurs passing firstPlace firstShared offSheet ofRound
 first-yes = first-by-puts thisWeek (made Twoway) refl listed round ∙ refl
 
 pub first-leaves : FirstLeaves
-unfolding entriesSize backSize hasZero filter same cat le32 word ofId countAt countBytes ids idBytes sectionBytes sheetBytes sectionAt sections readSheet readLists occurs passing firstPlace firstShared offSheet ofRound
+unfolding entriesSize backSize hasZero filter same cat le32 word ofId countAt countBytes ids idBytes sectionBytes sheetBytes sectionAt
+    sections readSheet readLists occurs passing firstPlace firstShared offSheet ofRound
 first-leaves = ap (λ (v : Verdict). answerOf v 0 0 (unsightedIn (readLists listed) round)) first-yes
 
 as-old : (old : List ℕ) → ¬ Whole old → RefusedAsOld old

@@ -6,7 +6,8 @@ use mathlib.Core.List.{List}
 use mathlib.Core.Option.{Option, none, some}
 use lib.Dec.{eqb}
 use lib.ListN.{length}
-use Rattle.image.specs.Bytes.{same}
+-- is it this name?
+pub use Rattle.one_to_one.specs.OneToOne.{isName}
 use Rattle.preflight.specs.Ids.{isId, occurs, firstPlace}
 use Rattle.preflight.specs.declared.Place.{Place}
 use Rattle.preflight.specs.declared.Place.the-variants.{Nothing}
@@ -18,11 +19,6 @@ Names = ℕ → Option (List ℕ)
 abbrev pub isEmpty : Option (List ℕ) → Bool
 isEmpty (some name) = eqb (length name) 0
 isEmpty none = true
-
--- is it this name?
-abbrev pub isName : Option (List ℕ) → List ℕ → Bool
-isName (some n) name = same n name
-isName none name = false
 
 -- is there an old name, and is it the name now?
 abbrev pub keptName : Option (List ℕ) → Option (List ℕ) → Bool
