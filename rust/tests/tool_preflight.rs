@@ -445,6 +445,8 @@ fn all_walls() {
     folder.write("round", "14\n");
     folder.cqdb(&["bundle", "append", "walls", "one"]).gives(0);
     ask().gives(2).prints("").tells("cqdb: preflight: the last bundle has 2 images, and this one 3\n");
+    folder.write("last", folder.read("one"));
+    ask().gives(2).prints("").tells("cqdb: preflight: the last bundle has 1 image, and this one 3\n");
     asked(&folder, "--all --last last --sheet sheet --round round walls:1").gives(2).prints("");
     folder.write("walls", "");
     asked(&folder, "--all --first --sheet sheet --round round walls").gives(2).prints("");

@@ -8,7 +8,7 @@ use crate::asked::{Answers, Asked, Counts};
 use crate::compare::{self, QUESTIONS};
 use crate::lines;
 use crate::memory::Kept;
-use crate::outcome::Failure;
+use crate::outcome::{self, Failure};
 use crate::preflight::Files;
 
 /// Asks of every position in both bundles, position by position, then of the walls together.
@@ -18,7 +18,8 @@ pub fn ask(files: &Files, round: &[u32]) -> Result<Answers, Failure> {
         return Err(Failure::new("the bundle has no image"));
     }
     if let Some(old) = old.as_ref().filter(|old| old.len() != new.len()) {
-        return Err(Failure::new(format!("the last bundle has {} images, and this one {}", old.len(), new.len())));
+        let images = outcome::count(old.len() as u64, "image", "images");
+        return Err(Failure::new(format!("the last bundle has {images}, and this one {}", new.len())));
     }
     let mut answers = Answers { is_first: old.is_none(), ..Answers::default() };
     for (position, image) in new.iter().enumerate() {
