@@ -27,6 +27,9 @@ pub enum Said {
     NotAsked,
 }
 
+/// What is said of a round without an id where its ids are asked about.
+pub const NONE_SIGHTED: Said = Said::YesAboutNothing("the round has no id, so nothing was compared");
+
 impl From<Result<(), String>> for Said {
     fn from(answer: Result<(), String>) -> Said {
         answer.map_or_else(|breaks| Said::No(breaks, Vec::new()), |()| Said::Yes)

@@ -4,7 +4,7 @@ use std::path::Path;
 use cqdb::{references_first, Order, Pair};
 
 use crate::args::{Args, Command, WINDOWS};
-use crate::asked::Said;
+use crate::asked::{Said, NONE_SIGHTED};
 use crate::input::INCOMPLETE;
 use crate::lines::{self, Lines};
 use crate::outcome::{Failure, Outcome, Output};
@@ -54,7 +54,7 @@ pub fn kept(pairs: &[Pair], round: &[u32]) -> Said {
     let no = |why: String| Said::No(why, Vec::new());
     match references_first(pairs, round) {
         Order::Yes if pairs.is_empty() => no("there is no pair, so nothing was compared".to_string()),
-        Order::Yes if round.is_empty() => Said::YesAboutNothing("the round has no id, so nothing was compared"),
+        Order::Yes if round.is_empty() => NONE_SIGHTED,
         Order::Yes => match pairs.iter().any(|pair| round.contains(&pair.wall)) {
             true => Said::Yes,
             false => Said::YesAboutNothing("no wall of a pair is sighted, so nothing was compared"),
