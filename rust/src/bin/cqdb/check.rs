@@ -42,8 +42,8 @@ fn run(args: Args) -> Outcome {
     Ok(all.into())
 }
 
-/// Prints a line for each question. Is every answer yes? Each line goes out before the next question is asked: of a forged
-/// image those behind the second may take time that grows with the square of its bytes.
+/// Prints a line for each question. Is every answer yes? Each line goes out before the next question is asked: of a
+/// forged image those behind the second may take time that grows with the square of its bytes.
 fn questions(source: &Source, out: &mut Output) -> Result<bool, Failure> {
     let db = match source.opened()? {
         Ok(db) => db,

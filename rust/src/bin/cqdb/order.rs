@@ -48,8 +48,8 @@ pub fn pairs(args: &Args, path: &Path) -> Result<Vec<Pair>, Failure> {
     Lines::of_list(args, Some(path.as_os_str()), b'\n')?.parsed(args, form, pair)
 }
 
-/// Does a round keep every pair? Not where there is none to keep; and where the round has no id, or no wall of a pair is
-/// sighted, the yes says so.
+/// Does a round keep every pair? Not where there is none to keep; and where the round has no id, or no wall of a pair
+/// is sighted, the yes says so.
 pub fn kept(pairs: &[Pair], round: &[u32]) -> Said {
     let no = |why: String| Said::No(why, Vec::new());
     match references_first(pairs, round) {
