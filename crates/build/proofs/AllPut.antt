@@ -17,8 +17,8 @@ use Rattle.image.specs.Zero.{hasZero}
 use Rattle.image.proofs.Between.{length-between}
 use Rattle.image.proofs.Bools.{or-false-first, or-false-second}
 use Rattle.image.proofs.Sizes.{entriesSize-append}
-use Rattle.packed.specs.Names.{namesFrom, names, invalidEnds, nth, beginOf}
-use Rattle.packed.proofs.NameEnds.{length-names}
+use Rattle.image.specs.PackedNames.{namesFrom, names, invalidEnds, nth, beginOf}
+use Rattle.image.proofs.NameEnds.{length-names}
 use Rattle.serialize.specs.Serialize.{storedEntries}
 use Rattle.serialize.specs.steps.Preconditions.{ClosePrecondition}
 use Rattle.writer.specs.declared.Repeats.{Repeats}

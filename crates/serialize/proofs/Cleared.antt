@@ -19,7 +19,7 @@ use Rattle.serialize.specs.Record.{finishedOf}
 use Rattle.image.specs.Stored.{between}
 use Rattle.serialize.specs.steps.Written.{rowsFrom, backOffsetOf, headed, zeroed, begunImage}
 use Rattle.serialize.proofs.HeadRows.{Counts, rows-image}
-use Rattle.serialize.proofs.PartialImage.{tablesWith, upToEntries, length-upToEntries, partial, zeros-both, zeros-links}
+use Rattle.serialize.proofs.PartialImage.{tablesWith, upToEntries, length-upToEntries, partial, zeros-both, zeros-back-words}
 use Rattle.serialize.proofs.InsertStep.{store-in}
 
 -- ---- three stores: head, rows, and what follows the entries
@@ -97,7 +97,7 @@ module _ (mode : Mode) (end entries back : ℕ) (counts buf : List ℕ) (es : Li
   zeros-back =
       let n = backSizeOf mode es in
       let long : size - (end + 16 * entries) ≡ length (backWords [] n) = omega (arith, back-is, length-backWords [] n) in
-      ap (λ (k : ℕ). replicate k 0) long ∙ sym (zeros-links n)
+      ap (λ (k : ℕ). replicate k 0) long ∙ sym (zeros-back-words n)
 
   pub length-front : length (headWords mode es ++ tableRows (entriesEnd es) (placedIn es) ++ between buf headSize end) ≡ entriesEnd es
   length-front =

@@ -10,7 +10,7 @@ use lib.Seq.{length-take-le, drop-at}
 use borrow.Author.Needs.{needs}
 use Rattle.image.specs.Image.{imageSize}
 use Rattle.image.proofs.Bools.{false-not-true}
-use Rattle.packed.proofs.NameEnds.{begin-later, placed}
+use Rattle.image.proofs.NameEnds.{begin-later, placed}
 use Rattle.serialize.specs.steps.Meeting.{Distinct}
 use Rattle.writer.specs.State.{refusesRepeats}
 use Rattle.writer.specs.declared.Repeats.the-variants.{On}

@@ -7,8 +7,8 @@ use lib.ListN.{length, getD, take}
 use lib.Seq.{length-take-le}
 use borrow.Author.Needs.{needs}
 use Rattle.image.specs.Image.{Entry, headSize, backIn, backSizeOf, backOffset, entriesEnd, imageSize}
-use Rattle.packed.specs.Names.{beginOf}
-use Rattle.packed.proofs.NameEnds.{begin-later}
+use Rattle.image.specs.PackedNames.{beginOf}
+use Rattle.image.proofs.NameEnds.{begin-later}
 use Rattle.serialize.proofs.Cleared.{Numbers, size-is, back-offset-is}
 use Rattle.serialize.proofs.WriteSteps.{backOffset-le}
 use Rattle.build.specs.steps.Stores.{listEntries}
