@@ -50,7 +50,6 @@ fn questions_from_standard_input() {
     let folder = folder();
     folder.with("pier\nnobody\nnorth wall", &["id", "walls"]).gives(1).prints("4 pier\n nobody\n0 north wall\n");
     folder.with("4\n0\n", &["name", "walls"]).gives(0).prints("4 pier\n0 north wall\n");
-    folder.with("", &["id", "walls"]).gives(0).prints("");
     folder.with("pier\0crane\0", &["id", "-0", "walls"]).gives(0).prints("4 pier\x001 crane\0");
     // More than one round of 512 names.
     let list: String = (0..2_000).map(|id| format!("{id} prism {id}\n")).collect();
@@ -59,6 +58,31 @@ fn questions_from_standard_input() {
     folder.image("many", &list);
     folder.with(names, &["id", "many"]).gives(0).prints(&list);
     folder.with(ids, &["name", "many"]).gives(0).prints(&list);
+}
+
+/// An input without a line asks nothing, so there is no answer. A blank line is a question.
+#[test]
+fn nothing_asked() {
+    let folder = folder();
+    folder.write("windows", "0 2024-01-01 2025-01-01\n");
+    for words in [
+        &["id", "walls"][..],
+        &["id", "-q", "walls"],
+        &["ids", "walls"],
+        &["name", "walls"],
+        &["name", "--json", "walls"],
+        &["on", "2024-03-31", "walls", "windows"],
+        &["panel", "walls"],
+        &["home", "walls"],
+        &["hash"],
+    ] {
+        let told = format!("cqdb: {}: nothing was asked: standard input has no line\n", words[0]);
+        folder.with("", words).gives(2).prints("").tells(&told);
+        folder.unread("", words).gives(2).tells(&told);
+    }
+    folder.with("\n", &["id", "walls"]).gives(1).prints(" \n").tells("cqdb: id: walls has no name \"\"\n");
+    folder.with("0\n", &["home", "walls"]).gives(0).prints("0 yes\n").tells("");
+    folder.with("\n", &["hash"]).gives(0).prints("8ba9414b \n").tells("");
 }
 
 #[test]
@@ -169,18 +193,13 @@ fn checks() {
     let yes = "yes  it opens\nyes  it is canonical\nyes  readings agree\nyes  every name is home\n";
     let fifth = |line: &str| format!("{yes}{line}\n");
     folder.image("distinct", "0 north wall\n1 crane\n4 mole\n");
-    folder.cqdb(&["make", "empty"]).gives(0);
-    for image in ["distinct", "one-way", "empty"] {
-        folder.cqdb(&["check", image]).gives(0).prints(fifth("yes  one name for one id")).tells("");
-    }
+    folder.cqdb(&["check", "distinct"]).gives(0).prints(fifth("yes  one name for one id")).tells("");
     // Two names for id 4; then two ids for crane, the first of which is put last.
     let no = "no   one name for one id: id 4 was put with the name \"mole\", and has the name \"pier\"";
     folder.cqdb(&["check", "walls"]).gives(1).prints(fifth(no)).tells("");
     let no = "no   one name for one id: \"crane\" was put with id 2, and has id 9";
-    for way in [&["make", "--repeats"][..], &["make", "--repeats", "--one-way"][..]] {
-        folder.with("9 crane\n2 crane\n", &[way, &["renewed"]].concat()).gives(0);
-        folder.cqdb(&["check", "renewed"]).gives(1).prints(fifth(no)).tells("");
-    }
+    folder.with("9 crane\n2 crane\n", &["make", "--repeats", "renewed"]).gives(0);
+    folder.cqdb(&["check", "renewed"]).gives(1).prints(fifth(no)).tells("");
     // A zero byte in the name of id 0, whose entry is the first: it is no longer found under its hash either.
     let mut bytes = folder.read("walls");
     bytes[2_072 + 8 + 3] = 0;
@@ -189,6 +208,36 @@ fn checks() {
     assert!(text.contains("yes  it opens\n"), "{text}");
     assert!(text.contains("no   readings agree: the name of id 0 has a zero byte\n"), "{text}");
     assert!(text.contains("no   every name is home: id 0 is not\n"), "{text}");
+}
+
+/// A yes about no name, or about names in one direction alone, says so.
+#[test]
+fn checks_of_no_name() {
+    let folder = folder();
+    let nothing = "no id has a name, so nothing was compared";
+    let names = format!("yes  readings agree: {nothing}\nyes  every name is home: {nothing}\n");
+    let fifth = |line: &str| format!("yes  it opens\nyes  it is canonical\n{names}{line}\n");
+    folder.cqdb(&["make", "empty"]).gives(0);
+    folder.cqdb(&["make", "--one-way", "empty one-way"]).gives(0);
+    for image in ["empty", "empty one-way"] {
+        let yes = "yes  one name for one id: there is no entry, so nothing was compared";
+        folder.cqdb(&["check", image]).gives(0).prints(fifth(yes)).tells("");
+    }
+    let yes = "yes  one name for one id: no id has a name, so only the ids of names were compared";
+    folder.cqdb(&["check", "one-way"]).gives(0).prints(fifth(yes)).tells("");
+    folder.with("9 crane\n2 crane\n", &["make", "--repeats", "--one-way", "renewed"]).gives(0);
+    let no = "no   one name for one id: \"crane\" was put with id 2, and has id 9";
+    folder.cqdb(&["check", "renewed"]).gives(1).prints(fifth(no)).tells("");
+    // An array of three words for ids, none of which has a name.
+    let mut bytes = folder.read("empty");
+    let size = bytes.len() as u32;
+    for (place, word) in [(4, size + 12), (16, 3), (20, size)] {
+        bytes[place..place + 4].copy_from_slice(&word.to_le_bytes());
+    }
+    bytes.extend([0; 12]);
+    folder.write("gaps", bytes);
+    let text = String::from_utf8(folder.cqdb(&["check", "gaps"]).gives(1).out).unwrap();
+    assert!(text.contains(&names), "{text}");
 }
 
 #[test]

@@ -39,7 +39,11 @@ fn names_on_a_date() {
         ),
         (
             "1 2023-01-01 2024-13-01",
-            "line 2: the end date, 2024-13-01, is no day of the years 1900 to 2199 (refusal 22)",
+            "line 2: the end date, 2024-13-01, is no day of the years 1900 to 2199, nor 2200-01-01 (refusal 22)",
+        ),
+        (
+            "1 2023-01-01 2200-01-02",
+            "line 2: the end date, 2200-01-02, is no day of the years 1900 to 2199, nor 2200-01-01 (refusal 22)",
         ),
         ("1 2024-06-01 2024-06-01", "line 2: a window does not start before its end (refusal 23)"),
         (
@@ -62,9 +66,11 @@ fn references_before_walls() {
     order("1\n7\n8\n2\n").gives(1).prints(format!("no   the round keeps references before walls: {why}"));
     order("7\n8\n").gives(1).prints("no   the round keeps references before walls: pair 1: wall 7 is sighted, and reference 1 is not sighted before\n");
     let nothing = "no wall of a pair is sighted, so nothing was compared";
-    for round in ["", "1\n2\n", "9\n"] {
+    for round in ["1\n2\n", "9\n"] {
         order(round).gives(0).prints(format!("yes  the round keeps references before walls: {nothing}\n")).tells("");
     }
+    let nothing = "the round has no id, so nothing was compared";
+    order("").gives(0).prints(format!("yes  the round keeps references before walls: {nothing}\n")).tells("");
     order("1 7\n").gives(2).tells("cqdb: order: standard input, line 1: not a decimal id up to 4294967295: \"1 7\"\n");
     folder.write("pairs", "1 7\n2\n");
     let told = "cqdb: order: pairs, line 2: not the id of a reference, a space and the id of a wall prism: \"2\"\n";

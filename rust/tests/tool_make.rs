@@ -148,7 +148,13 @@ fn names_of_any_bytes_survive() {
     assert!(names.iter().enumerate().all(|(id, name)| db.to_str(id as u32).unwrap() == *name));
     // Without -0, a name with a line feed is told and not printed as two lines.
     let ran = folder.cqdb(&["list", "image"]).gives(2);
+    ran.tells("cqdb: list: the name of id 9 has a line feed: say --zero, --csv, --tsv, --json or --cdb\n");
+    // Records of cdb have no place for positions.
+    let ran = folder.cqdb(&["list", "--all", "image"]).gives(2);
     ran.tells("cqdb: list: the name of id 9 has a line feed: say --zero, --csv, --tsv or --json\n");
+    let records = folder.cqdb(&["list", "--cdb", "image"]).gives(0).tells("").out;
+    folder.with(records, &["make", "--cdb", "--alike", "--blank", "again"]).gives(0);
+    assert_eq!(folder.read("again"), image);
     // Of the other names, those that end with a carriage return need -0 as well.
     let plain: Vec<Vec<u8>> = (names.iter().enumerate())
         .filter(|(_, name)| !name.contains(&b'\n') && name.last() != Some(&b'\r'))

@@ -2,7 +2,7 @@
 mod tool;
 
 use std::fs::OpenOptions;
-use std::io::Write;
+use std::io::{BufRead, BufReader, Write};
 use std::process::{Command, Stdio};
 use std::time::Instant;
 
@@ -192,4 +192,27 @@ fn many_equal_names() {
     let list: String = (0..100_000).map(|id| format!("{id} crane {id}\n")).collect();
     folder.with(&list, &["make", "--repeats", "image"]).gives(0).tells("");
     folder.cqdb(&["check", "image"]).gives(0).tells("");
+}
+
+/// A forged image whose ids all have one long name: to read it for each of them would take minutes. That the image is not
+/// canonical is said before.
+#[test]
+fn a_forged_image_is_told_at_once() {
+    let folder = Folder::new();
+    folder.image("image", format!("0 {}\n1048575 far\n", "n".repeat(1 << 20)));
+    let mut bytes = folder.read("image");
+    let word = |at: usize| u32::from_le_bytes(bytes[at..at + 4].try_into().unwrap()) as usize;
+    let (back_size, back) = (word(16), word(20));
+    bytes[back..back + 4 * back_size].copy_from_slice(&2_072u32.to_le_bytes().repeat(back_size));
+    folder.write("forged", bytes);
+    let mut command = Command::new("bash");
+    let command = command.args(["-c", "ulimit -t 60; exec \"$CQDB\" check forged"]).env("CQDB", TOOL);
+    let mut child = command.current_dir(&folder.0).stdout(Stdio::piped()).spawn().unwrap();
+    let lines = BufReader::new(child.stdout.take().unwrap()).lines().take(2);
+    let lines: Vec<String> = lines.map(|line| line.unwrap()).collect();
+    let asking = child.try_wait().unwrap().is_none();
+    child.kill().unwrap();
+    child.wait().unwrap();
+    assert_eq!(lines, ["yes  it opens", "no   it is canonical: no list of puts makes these bytes"]);
+    assert!(asking);
 }

@@ -302,6 +302,27 @@ fn pairs_that_compare_nothing() {
     has(&ran.out, format!("\"text\":\"{question}\",\"yes\":true,\"compared\":0}}"));
 }
 
+/// Where no id is sighted, or the sheet has none, the report stays, and each line that would ask of them says so.
+#[test]
+fn a_round_and_a_sheet_without_an_id() {
+    let folder = folder();
+    folder.write("pairs", "0 14\n");
+    folder.write("windows", "0 1990-01-01 2200-01-01\n");
+    folder.write("round", "");
+    sheet(&folder, "");
+    let dates = "--validity windows --date 2024-03-31 --last-date 2024-03-24";
+    let none = "the round has no id, so nothing was compared";
+    let behind = format!(
+        "yes{SHEET_NAMED}: the sheet has no id, so nothing was compared\n\
+         yes      the round keeps references before walls: {none}\n\
+         yes  11  every sighted id has a window that holds both dates: {none}\n"
+    );
+    let ran = asked(&folder, &format!("--pairs pairs {dates} {LAST}")).gives(1).tells("");
+    ran.prints(no(10, 4, "the round is empty") + &behind);
+    let text = String::from_utf8(asked(&folder, &format!("--json {dates} {LAST}")).gives(1).out).unwrap();
+    assert!(text.contains("\"yes\":true,\"compared\":0}\n{\"may_leave\":false}\n"), "{text}");
+}
+
 #[test]
 fn an_unsighted_id_of_the_sheet_without_a_name() {
     let folder = folder();
@@ -441,10 +462,13 @@ fn all_walls() {
     bundle("walls", [north, quay]);
     folder.write("round", "");
     no("no       an id is sighted: the round is empty");
+    no("yes      every sighted id is in one wall, then and now: the round has no id, so nothing was compared");
     // Bundles of different numbers of walls, and one image of a bundle, cannot be asked so.
     folder.write("round", "14\n");
     folder.cqdb(&["bundle", "append", "walls", "one"]).gives(0);
     ask().gives(2).prints("").tells("cqdb: preflight: the last bundle has 2 images, and this one 3\n");
+    folder.write("last", folder.read("one"));
+    ask().gives(2).prints("").tells("cqdb: preflight: the last bundle has 1 image, and this one 3\n");
     asked(&folder, "--all --last last --sheet sheet --round round walls:1").gives(2).prints("");
     folder.write("walls", "");
     asked(&folder, "--all --first --sheet sheet --round round walls").gives(2).prints("");

@@ -2,6 +2,7 @@
 use std::os::unix::ffi::OsStrExt;
 
 use crate::args::{Args, Opt, ALL, TAB};
+use crate::cdb::CDB;
 use crate::csv::{self, CSV};
 use crate::json::{self, JSON};
 use crate::lines;
@@ -35,6 +36,8 @@ pub struct Form<'a> {
     missing: &'a [u8],
     between: u8,
     end: u8,
+    /// The options that keep a line feed of a name.
+    keeping: &'static str,
 }
 
 #[derive(Clone, Copy, PartialEq, Eq)]
@@ -61,7 +64,12 @@ impl<'a> Form<'a> {
             _ => (args.between(), args.end()),
         };
         let missing = args.value(&MISSING).map_or(&b""[..], |text| text.as_bytes());
-        Ok(Form { layout, value, positions: args.has(&ALL), missing, between, end })
+        // The records of cdb have no place for the position of an image.
+        let keeping = match args.knows(&CDB) && !args.has(&ALL) {
+            true => "--zero, --csv, --tsv, --json or --cdb",
+            false => "--zero, --csv, --tsv or --json",
+        };
+        Ok(Form { layout, value, positions: args.has(&ALL), missing, between, end, keeping })
     }
 
     /// Prints the line of an answer. The position is that of the image in its bundle; `word` is the question where it
@@ -103,12 +111,10 @@ impl<'a> Form<'a> {
     /// A name that holds the byte that ends a line would be read as two.
     fn two_lines(&self, id: Option<u32>, field: &[u8]) -> Failure {
         let whose = id.map_or(lines::shown(field), |id| format!("the name of id {id}"));
-        let what = if self.end == 0 {
-            "a zero byte: leave --zero out"
-        } else {
-            "a line feed: say --zero, --csv, --tsv or --json"
-        };
-        Failure::new(format!("{whose} has {what}"))
+        match self.end {
+            0 => Failure::new(format!("{whose} has a zero byte: leave --zero out")),
+            _ => Failure::new(format!("{whose} has a line feed: say {}", self.keeping)),
+        }
     }
 
     fn json(&self, out: &mut Output, position: Option<u64>, row: Row, word: Option<&[u8]>) -> Result<(), Failure> {

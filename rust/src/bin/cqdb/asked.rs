@@ -19,11 +19,16 @@ pub enum Said {
     Yes,
     /// Yes, since nothing was there to compare: why.
     YesAboutNothing(&'static str),
+    /// Yes as far as it can be asked: what is left out, and why.
+    YesInPart(&'static str),
     /// No: what breaks it, and the numbers that show it with their names.
     No(String, Vec<(&'static str, u64)>),
     /// An earlier question fails, so it is not known.
     NotAsked,
 }
+
+/// What is said of a round without an id where its ids are asked about.
+pub const NONE_SIGHTED: Said = Said::YesAboutNothing("the round has no id, so nothing was compared");
 
 impl From<Result<(), String>> for Said {
     fn from(answer: Result<(), String>) -> Said {
@@ -33,23 +38,28 @@ impl From<Result<(), String>> for Said {
 
 impl Said {
     pub fn is_yes(&self) -> bool {
-        matches!(self, Said::Yes | Said::YesAboutNothing(_))
+        matches!(self, Said::Yes | Said::YesAboutNothing(_) | Said::YesInPart(_))
+    }
+
+    /// The question with its answer, where it has no number.
+    pub fn line(&self, question: &str) -> String {
+        format!("{:<3}  {question}{}", self.word(), self.why())
     }
 
     /// The answer in a word.
-    pub fn word(&self) -> &'static str {
+    fn word(&self) -> &'static str {
         match self {
-            Said::Yes | Said::YesAboutNothing(_) => "yes",
+            Said::Yes | Said::YesAboutNothing(_) | Said::YesInPart(_) => "yes",
             Said::No(..) => "no",
             Said::NotAsked => "-",
         }
     }
 
     /// What is said behind the question.
-    pub fn why(&self) -> String {
+    fn why(&self) -> String {
         match self {
             Said::Yes => String::new(),
-            Said::YesAboutNothing(why) => format!(": {why}"),
+            Said::YesAboutNothing(why) | Said::YesInPart(why) => format!(": {why}"),
             Said::No(breaks, _) => format!(": {breaks}"),
             Said::NotAsked => ": not asked".to_string(),
         }
@@ -76,7 +86,7 @@ impl Asked {
         let position = self.position.map_or(String::new(), |position| format!("\"position\":{position},"));
         let number = self.number.map_or("null".to_string(), |number| number.to_string());
         let yes = match self.said {
-            Said::Yes | Said::YesAboutNothing(_) => "true",
+            Said::Yes | Said::YesAboutNothing(_) | Said::YesInPart(_) => "true",
             Said::No(..) => "false",
             Said::NotAsked => "null",
         };
@@ -89,7 +99,7 @@ impl Asked {
                 numbers.iter().try_for_each(|(name, number)| out.bytes(format!(",\"{name}\":{number}").as_bytes()))?;
             }
             Said::YesAboutNothing(_) => out.bytes(b",\"compared\":0")?,
-            Said::Yes | Said::NotAsked => {}
+            Said::Yes | Said::YesInPart(_) | Said::NotAsked => {}
         }
         out.bytes(b"}\n")
     }

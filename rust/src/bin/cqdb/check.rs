@@ -2,8 +2,10 @@
 use cqdb::CQDB;
 
 use crate::args::{Args, Command};
+use crate::asked::Said;
 use crate::compare;
 use crate::files::{self, Source};
+use crate::list;
 use crate::outcome::{Failure, Outcome, Output};
 use crate::progress::Progress;
 use crate::quadratic;
@@ -21,6 +23,10 @@ the first thing that breaks it. The exit status is 1 where an answer is no.
   readings agree       no name has a zero byte, so a C string shows all of it
   every name is home   the search for each id's name meets that id
   one name for one id  each entry's name has its id, and its id has its name
+
+Where no id has a name, as in an empty or a one-way image, or there is no entry, a
+yes says that nothing was compared. Of a one-way image the last line asks only
+whether each name has its id, and says so.
 ",
     options: &[],
     operands: (1, 1),
@@ -30,60 +36,71 @@ the first thing that breaks it. The exit status is 1 where an answer is no.
 fn run(args: Args) -> Outcome {
     let source = Source::open(args.path(0))?;
     let mut out = Output::new();
-    let all = questions(&source, &mut out, COMMAND.name)?.is_some_and(|(_, all)| all);
+    let all = questions(&source, &mut out)?;
     out.flush()?;
     source.has_stayed()?;
     Ok(all.into())
 }
 
-/// Prints a line for each question, and gives the image with the answer whether all were yes; none where it does not
-/// open.
-pub fn questions<'a>(source: &'a Source, out: &mut Output, command: &str) -> Result<Option<(CQDB<'a>, bool)>, Failure> {
+/// Prints a line for each question. Is every answer yes? Each line goes out before the next question is asked: of a
+/// forged image those behind the second may take time that grows with the square of its bytes.
+fn questions(source: &Source, out: &mut Output) -> Result<bool, Failure> {
     let db = match source.opened()? {
         Ok(db) => db,
-        Err(error) => {
-            line(out, &Err(files::in_words(&error)), "it opens")?;
-            return Ok(None);
-        }
+        Err(error) => return line(out, Said::from(Err(files::in_words(&error))), "it opens"),
     };
-    line(out, &Ok(()), "it opens")?;
-    out.flush()?;
-    quadratic::tell_of(&db, command);
+    line(out, Said::Yes, "it opens")?;
+    quadratic::tell_of(&db, COMMAND.name);
     let canonical = if db.is_canonical() { Ok(()) } else { Err("no list of puts makes these bytes".to_string()) };
-    let mut all = line(out, &canonical, "it is canonical")?;
-    all &= line(out, &readings(&db), "readings agree")?;
-    out.flush()?;
-    all &= line(out, &homes(&db), "every name is home")?;
-    out.flush()?;
-    all &= line(out, &compare::one_name_for_one_id(&db), compare::ONE_NAME)?;
-    Ok(Some((db, all)))
+    let mut all = line(out, canonical.into(), "it is canonical")?;
+    all &= line(out, readings(&db), "readings agree")?;
+    all &= line(out, homes(&db), "every name is home")?;
+    all &= line(out, one_to_one(&db), compare::ONE_NAME)?;
+    Ok(all)
 }
 
-/// Prints a question with its answer: yes, or no and why.
-pub fn line(out: &mut Output, answer: &Result<(), String>, question: &str) -> Result<bool, Failure> {
-    match answer {
-        Ok(()) => out.text(&format!("yes  {question}"))?,
-        Err(why) => out.text(&format!("no   {question}: {why}"))?,
-    }
-    Ok(answer.is_ok())
+/// Prints a question with its answer, which goes out at once.
+fn line(out: &mut Output, said: Said, question: &str) -> Result<bool, Failure> {
+    out.text(&said.line(question))?;
+    out.flush()?;
+    Ok(said.is_yes())
 }
 
-/// Why the readings do not agree.
-fn readings(db: &CQDB) -> Result<(), String> {
+/// What is said where no id has a name to ask about.
+const NO_NAME: Said = Said::YesAboutNothing("no id has a name, so nothing was compared");
+
+/// Do the readings agree, or why not?
+fn readings(db: &CQDB) -> Said {
+    let mut ids = 0..db.back_size();
     if db.readings_agree() {
-        return Ok(());
+        return if ids.any(|id| db.to_str(id).is_some()) { Said::Yes } else { NO_NAME };
     }
-    let id = (0..db.back_size()).find(|id| db.panel(*id) != db.to_str(*id));
-    Err(id.map_or("no id was found".to_string(), |id| format!("the name of id {id} has a zero byte")))
+    let id = ids.find(|id| db.panel(*id) != db.to_str(*id));
+    let why = id.map_or("no id was found".to_string(), |id| format!("the name of id {id} has a zero byte"));
+    Said::from(Err(why))
 }
 
-/// The first id that has a name and is not home.
-fn homes(db: &CQDB) -> Result<(), String> {
+/// Is every id home that has a name, or which is the first that is not?
+fn homes(db: &CQDB) -> Said {
     let mut progress = Progress::new();
-    let away = (0..db.back_size()).find(|id| {
-        progress.at(u64::from(*id), "ids");
-        db.to_str(*id).is_some() && !db.home(*id)
-    });
+    let mut said = NO_NAME;
+    let ids = (0..db.back_size()).inspect(|id| progress.at(u64::from(*id), "ids"));
+    for id in ids.filter(|id| db.to_str(*id).is_some()) {
+        said = Said::Yes;
+        if !db.home(id) {
+            said = Said::from(Err(format!("id {id} is not")));
+            break;
+        }
+    }
     progress.clear();
-    away.map_or(Ok(()), |id| Err(format!("id {id} is not")))
+    said
+}
+
+/// Are names and ids one to one, or which entry shows that they are not?
+fn one_to_one(db: &CQDB) -> Said {
+    match compare::one_name_for_one_id(db) {
+        Ok(()) if db.num() == 0 => Said::YesAboutNothing("there is no entry, so nothing was compared"),
+        Ok(()) if list::names_none(db) => Said::YesInPart("no id has a name, so only the ids of names were compared"),
+        answer => answer.into(),
+    }
 }

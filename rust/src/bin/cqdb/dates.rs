@@ -58,7 +58,7 @@ impl Windows {
     pub fn hold_both(&self, last: Date, round: &[u32]) -> Result<cqdb::PreflightDates, Failure> {
         // Windows and date were accepted before, so a refusal is about the other date.
         cqdb::preflight_dates(&self.list, round, last, self.date).map_err(|refusal| {
-            Failure::new(format!("the date of the last report, {}, {}", shown(last), no_day(refusal)))
+            Failure::new(format!("the date of the last report, {}, {}", shown(last), no_day("", refusal)))
         })
     }
 }
@@ -78,16 +78,18 @@ fn refusal_of(date: Date, windows: &[Window]) -> Result<(), Refusal> {
 /// The failure, with the date or the line that the refusal is about.
 fn refused(path: &Path, date: Date, windows: &[Window], refusal: Refusal) -> Failure {
     if let Err(refusal) = refusal_of(date, &[]) {
-        return Failure::new(format!("the date asked about, {}, {}", shown(date), no_day(refusal)));
+        return Failure::new(format!("the date asked about, {}, {}", shown(date), no_day("", refusal)));
     }
     let line = windows.iter().position(|window| refusal_of(date, &[*window]) == Err(refusal));
     let what = line.map(|line| &windows[line]).map_or_else(
         || files::refusal_in_words(refusal),
         |window| match refusal {
             Refusal::NoSuchDate if refusal_of(window.first, &[]).is_err() => {
-                format!("the first date, {}, {}", shown(window.first), no_day(refusal))
+                format!("the first date, {}, {}", shown(window.first), no_day("", refusal))
             }
-            Refusal::NoSuchDate => format!("the end date, {}, {}", shown(window.end), no_day(refusal)),
+            Refusal::NoSuchDate => {
+                format!("the end date, {}, {}", shown(window.end), no_day(", nor 2200-01-01", refusal))
+            }
             _ => files::refusal_in_words(refusal),
         },
     );
@@ -99,6 +101,7 @@ fn shown(date: Date) -> String {
     format!("{:04}-{:02}-{:02}", date.year, date.month, date.day)
 }
 
-fn no_day(refusal: Refusal) -> String {
-    format!("is no day of the years 1900 to 2199 (refusal {})", refusal.number())
+/// What is said of a refused date; `nor` names a day behind those years that would be taken too.
+fn no_day(nor: &str, refusal: Refusal) -> String {
+    format!("is no day of the years 1900 to 2199{nor} (refusal {})", refusal.number())
 }

@@ -10,7 +10,8 @@ pub const COMMAND: Command = Command {
     text: "
 Prints a line for each ID, or for each line of standard input: the id, a space,
 and yes where the id has a name and the search for that name meets this id, or
-else no. The exit status is 1 where an answer is no.
+else no. The exit status is 1 where an answer is no, and 2 where nothing was
+asked, since standard input has no line.
 ",
     options: &[WINDOWS, ZERO],
     operands: (1, usize::MAX),

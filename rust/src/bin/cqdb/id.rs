@@ -18,7 +18,8 @@ pub const COMMAND: Command = Command {
 Prints a line for each NAME, in order: its id, a space and the name. Without a
 NAME, names are read from standard input, one to a line. A name that the image
 lacks has an empty id, or the text of --missing; it is told on standard error,
-and the exit status is then 1. Up to 512 names are looked up in one call.
+and the exit status is then 1. Up to 512 names are looked up in one call. Where
+standard input has no line, nothing was asked, and the exit status is 2.
 BUNDLE:1 is the second image of a bundle; --all asks every image.
 ",
     options: &[ALL, CSV, JSON, MISSING, QUIET, TAB, TSV, WINDOWS, ZERO],

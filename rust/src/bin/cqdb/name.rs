@@ -19,8 +19,8 @@ Prints a line for each ID, in order: the id, a space and the name. Without an ID
 ids are read from standard input, one to a line. An id that has no name has an
 empty one, or the text of --missing; it is told on standard error, and the exit
 status is then 1. A word that is no id is told too; the others are answered, and
-the exit status is 2. BUNDLE:1 is the second image of a bundle; --all asks every
-image.
+the exit status is 2. It is 2 too where standard input has no line: nothing was
+asked. BUNDLE:1 is the second image of a bundle; --all asks every image.
 ",
     options: &[ALL, CSV, JSON, MISSING, QUIET, TAB, TSV, WINDOWS, ZERO],
     operands: (1, usize::MAX),

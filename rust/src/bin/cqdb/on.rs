@@ -18,9 +18,10 @@ pub const COMMAND: Command = Command {
     text: "
 Prints a line for each ID, or for each line of standard input, as 'cqdb name'
 does, for DATE, such as 2024-03-31: an id has its name where some window of that id
-holds the date. WINDOWS has a line for each window: an id, its first date and the
-date from which on it stands no longer, a space between. Dates are of the years
-1900 to 2199; all windows are checked, also those of other ids.
+holds the date. WINDOWS has a line for each window: an id, its first date and its
+end date, from which on it stands no longer, a space between. Dates are of the
+years 1900 to 2199, an end date also 2200-01-01; all windows are checked, also
+those of other ids.
 ",
     options: &[ALL, CSV, INCOMPLETE, JSON, MISSING, QUIET, TAB, TSV, WINDOWS, ZERO],
     operands: (3, usize::MAX),

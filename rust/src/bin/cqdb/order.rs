@@ -4,7 +4,7 @@ use std::path::Path;
 use cqdb::{references_first, Order, Pair};
 
 use crate::args::{Args, Command, WINDOWS};
-use crate::asked::Said;
+use crate::asked::{Said, NONE_SIGHTED};
 use crate::input::INCOMPLETE;
 use crate::lines::{self, Lines};
 use crate::outcome::{Failure, Outcome, Output};
@@ -19,7 +19,8 @@ space and the id of a wall prism; ROUND has an id to a line, in the order in whi
 they are sighted. A pair is kept where its wall prism is not sighted, or its
 reference is sighted before. The exit status is 1 where a pair is not kept; the
 first one is named. It is 1 too where there is no pair: a yes about nothing is none.
-Where no wall prism of a pair is sighted, the line says that nothing was compared.
+Where the round has no id, or no wall prism of a pair is sighted, the line says that
+nothing was compared. The time grows with the number of pairs times that of ids.
 ",
     options: &[INCOMPLETE, WINDOWS],
     operands: (2, 2),
@@ -30,7 +31,7 @@ fn run(args: Args) -> Outcome {
     let (pairs, round) = (pairs(&args, args.path(0))?, lines::ids(&args, args.path(1))?);
     let mut out = Output::new();
     let said = kept(&pairs, &round);
-    out.text(&format!("{:<3}  {QUESTION}{}", said.word(), said.why()))?;
+    out.text(&said.line(QUESTION))?;
     out.finish(said.is_yes())
 }
 
@@ -47,11 +48,13 @@ pub fn pairs(args: &Args, path: &Path) -> Result<Vec<Pair>, Failure> {
     Lines::of_list(args, Some(path.as_os_str()), b'\n')?.parsed(args, form, pair)
 }
 
-/// Does a round keep every pair? Not where there is none to keep; and where no wall of a pair is sighted, the yes says so.
+/// Does a round keep every pair? Not where there is none to keep; and where the round has no id, or no wall of a pair
+/// is sighted, the yes says so.
 pub fn kept(pairs: &[Pair], round: &[u32]) -> Said {
     let no = |why: String| Said::No(why, Vec::new());
     match references_first(pairs, round) {
         Order::Yes if pairs.is_empty() => no("there is no pair, so nothing was compared".to_string()),
+        Order::Yes if round.is_empty() => NONE_SIGHTED,
         Order::Yes => match pairs.iter().any(|pair| round.contains(&pair.wall)) {
             true => Said::Yes,
             false => Said::YesAboutNothing("no wall of a pair is sighted, so nothing was compared"),

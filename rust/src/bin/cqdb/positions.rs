@@ -4,11 +4,11 @@ use std::collections::{HashMap, HashSet};
 
 use cqdb::{preflight, Report, Sheet, CQDB};
 
-use crate::asked::{Answers, Asked, Counts};
+use crate::asked::{Answers, Asked, Counts, Said, NONE_SIGHTED};
 use crate::compare::{self, QUESTIONS};
 use crate::lines;
 use crate::memory::Kept;
-use crate::outcome::Failure;
+use crate::outcome::{self, Failure};
 use crate::preflight::Files;
 
 /// Asks of every position in both bundles, position by position, then of the walls together.
@@ -18,7 +18,8 @@ pub fn ask(files: &Files, round: &[u32]) -> Result<Answers, Failure> {
         return Err(Failure::new("the bundle has no image"));
     }
     if let Some(old) = old.as_ref().filter(|old| old.len() != new.len()) {
-        return Err(Failure::new(format!("the last bundle has {} images, and this one {}", old.len(), new.len())));
+        let images = outcome::count(old.len() as u64, "image", "images");
+        return Err(Failure::new(format!("the last bundle has {images}, and this one {}", new.len())));
     }
     let mut answers = Answers { is_first: old.is_none(), ..Answers::default() };
     for (position, image) in new.iter().enumerate() {
@@ -39,11 +40,15 @@ pub fn ask(files: &Files, round: &[u32]) -> Result<Answers, Failure> {
 
 /// The questions that join the walls.
 fn of_all(old: &[&[u8]], new: &[&[u8]], round: &[u32]) -> [Asked; 3] {
-    let some = if round.is_empty() { Err("the round is empty".to_string()) } else { Ok(()) };
+    let said: [Said; 3] = match round.is_empty() {
+        true => [Err("the round is empty".to_string()).into(), NONE_SIGHTED, NONE_SIGHTED],
+        false => [Said::Yes, each_in_one(old, new, round).into(), names_apart(old, new, round).into()],
+    };
+    let [some, in_one, apart] = said;
     [
         Asked::own(QUESTIONS[3], some),
-        Asked::own("every sighted id is in one wall, then and now", each_in_one(old, new, round)),
-        Asked::own("the name of every sighted id is in its wall alone, then and now", names_apart(old, new, round)),
+        Asked::own("every sighted id is in one wall, then and now", in_one),
+        Asked::own("the name of every sighted id is in its wall alone, then and now", apart),
     ]
 }
 

@@ -4,7 +4,7 @@ use std::path::Path;
 use cqdb::{Date, Pair, PreflightDates, Report, Sheet, CQDB};
 
 use crate::args::{Args, Command, Opt, WINDOWS};
-use crate::asked::{Answers, Asked, Said};
+use crate::asked::{Answers, Asked, Said, NONE_SIGHTED};
 use crate::dates::{self, Windows};
 use crate::json::JSON;
 use crate::memory::Kept;
@@ -154,7 +154,7 @@ impl Files {
             asked.push(Asked::own(order::QUESTION, order::kept(pairs, round)));
         }
         if let Some((last, windows)) = &self.dates {
-            asked.push(held(windows.hold_both(*last, round)?));
+            asked.push(held(windows.hold_both(*last, round)?, round));
         }
         Ok(asked)
     }
@@ -190,16 +190,20 @@ fn not_behind(last: Date, date: Date) -> Result<(), Failure> {
     }
 }
 
-/// The first id of the sheet that no image names.
-fn all_named(images: &[&[u8]], sheet: &Sheet) -> Result<(), String> {
+/// Has every id of the sheet a name in some image, or which is the first that has none?
+fn all_named(images: &[&[u8]], sheet: &Sheet) -> Said {
     let opened: Vec<CQDB> = images.iter().filter_map(|image| CQDB::new(image).ok()).collect();
-    let mut ids = sheet.references().chain(sheet.walls()).chain(sheet.retired());
+    let mut ids = sheet.references().chain(sheet.walls()).chain(sheet.retired()).peekable();
+    if ids.peek().is_none() {
+        return Said::YesAboutNothing("the sheet has no id, so nothing was compared");
+    }
     let without = ids.find(|id| opened.iter().all(|db| db.to_str(*id).is_none()));
-    without.map_or(Ok(()), |id| Err(format!("id {id} has none")))
+    without.map_or(Said::Yes, |id| Err(format!("id {id} has none")).into())
 }
 
-fn held(answer: PreflightDates) -> Asked {
+fn held(answer: PreflightDates, round: &[u32]) -> Asked {
     let said = match answer {
+        PreflightDates::Yes if round.is_empty() => NONE_SIGHTED,
         PreflightDates::Yes => Said::Yes,
         PreflightDates::NoWindow { place, id } => {
             Said::No(format!("id {id} has none"), vec![("id", id.into()), ("place", place as u64)])

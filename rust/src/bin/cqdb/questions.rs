@@ -146,7 +146,8 @@ const ROUND: usize = 512;
 const BYTES: usize = 1 << 20;
 
 /// Calls with the questions in rounds of up to 512: the operands from a place on, or the lines of standard input where
-/// there is none. From a terminal each line is a round, so that its answer comes at once.
+/// there is none. From a terminal each line is a round, so that its answer comes at once. An input without a line is a
+/// failure: nothing was asked, as where the command that should have written the questions has failed.
 pub fn rounds(args: &Args, from: usize, mut ask: impl FnMut(&[&[u8]]) -> Result<(), Failure>) -> Result<(), Failure> {
     if args.operand(from).is_some() {
         let words: Vec<&[u8]> = args.bytes_from(from).collect();
@@ -154,6 +155,7 @@ pub fn rounds(args: &Args, from: usize, mut ask: impl FnMut(&[&[u8]]) -> Result<
     }
     let most = if io::stdin().is_terminal() { 1 } else { ROUND };
     let mut lines = Lines::of_questions(args.end())?;
+    let mut asked = false;
     loop {
         let (mut round, mut bytes) = (Vec::new(), 0);
         while round.len() < most && bytes < BYTES {
@@ -162,8 +164,10 @@ pub fn rounds(args: &Args, from: usize, mut ask: impl FnMut(&[&[u8]]) -> Result<
             bytes += line.len();
             round.push(line);
         }
-        if round.is_empty() {
-            return Ok(());
+        match round.is_empty() {
+            true if asked => return Ok(()),
+            true => return Err(Failure::new("nothing was asked: standard input has no line")),
+            false => asked = true,
         }
         ask(&round.iter().map(Vec::as_slice).collect::<Vec<_>>())?;
     }
