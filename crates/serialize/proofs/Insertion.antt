@@ -3,7 +3,7 @@
 use Prim.Native.Nat.{ℕ, suc, _+_, _-_, _*_, _%_, _≤_, _<_}
 use native.Mathlib.Omega.{arith}
 use mathlib.Core.Path.{_≡_, sym, ap, ap₂, subst, _∙_}
-use mathlib.Core.Bool.{Bool, true, false, cond, _||_}
+use mathlib.Core.Bool.{Bool, true, false, cond, _||_, _&&_}
 use mathlib.Core.List.{List, _++_}
 use lib.ListN.{length, take, drop, replicate}
 use lib.Seq.{sets}
@@ -58,6 +58,11 @@ name-in-read f at n is e = e ∙ ap (λ (k : ℕ). take (k - 1) (drop (at + 8) f
 -- a test that was true
 pub not-met : {A : Type 0} → true ≡ false → A
 not-met z = absurd (false-not-true (sym z))
+
+-- where an entry met one of equal name and `stop` is set, nothing is said of the bytes
+pub stopped : {A : Type 0} (stop one : Bool) → (stop && one) ≡ true → (stop && true) ≡ false → A
+stopped true one e z = not-met z
+stopped false one e z = not-met (sym e)
 
 -- the first empty bucket, where an entry of equal name was met
 pub restarted : (buf : List ℕ) (end o n h at i k : ℕ) → BucketIs (start h n) n i → BucketIs (firstEmpty (offsetAt buf o) (probeSequence n n i)) n k
@@ -135,8 +140,8 @@ module _ {mode : Mode} {back-offset end entries : ℕ} {buf₀ buf : List ℕ} {
         let m : suc (left - 1) ≡ left = omega arith in
         ap (λ (k : ℕ). cond (eqb k 0) buf (from k)) is ∙ ap (λ (k : ℕ). insertedFrom mode back-offset end k at buf) m ∙ inv .leaves
 
-    pub inserted-broken : n ≡ 0 → EntriesInserted mode back-offset end entries buf₀ buf true
-    inserted-broken z = record { leaves = sym (ap (λ (b : Bool). cond b buf (from n)) (eq-eqb n 0 z)) ∙ next; unmet = not-met }
+    pub inserted-broken : (stop : Bool) → n ≡ 0 → EntriesInserted stop mode back-offset end entries buf₀ buf true
+    inserted-broken stop z = record { leaves = λ _. sym (ap (λ (b : Bool). cond b buf (from n)) (eq-eqb n 0 z)) ∙ next; unmet = not-met }
 
     -- the first meets none, and then the others
     abbrev Both : ℕ → Type 0
@@ -160,16 +165,18 @@ module _ {mode : Mode} {back-offset end entries : ℕ} {buf₀ buf : List ℕ} {
           (done .unmet (or-false-second met one z), subst (UnmetFrom mode back-offset end (left - 1) (at + (8 + n))) (done .leaves) rest);
     }
 
-  pub inserted-all : left ≡ 0 → EntriesInserted mode back-offset end entries buf₀ buf met
+  pub inserted-all : (stop : Bool) → left ≡ 0 → EntriesInserted stop mode back-offset end entries buf₀ buf met
   unfolding insertedFrom
-  inserted-all e =
+  inserted-all stop e =
       record {
-        leaves = sym (ap (λ (k : ℕ). insertedFrom mode back-offset end k at buf) e) ∙ inv .leaves;
+        leaves = λ _. sym (ap (λ (k : ℕ). insertedFrom mode back-offset end k at buf) e) ∙ inv .leaves;
         unmet = λ z. inv .unmet z (subst (λ (k : ℕ). UnmetFrom mode back-offset end k at buf) (sym e) tt);
       }
 
 -- from cleared tables and back array
-pub inserted-in : (mode : Mode) (back-offset end entries size : ℕ) (buf : List ℕ) {b1 b2 : List ℕ} {met : Bool} → b1 ≡ sets buf end (replicate (size - end) 0)
-    → EntriesInserted mode back-offset end entries b1 b2 met → SinglyDone mode back-offset end entries size buf b2 met
+pub inserted-in : {stop : Bool} (mode : Mode) (back-offset end entries size : ℕ) (buf : List ℕ) {b1 b2 : List ℕ} {met : Bool}
+    → b1 ≡ sets buf end (replicate (size - end) 0) → EntriesInserted stop mode back-offset end entries b1 b2 met
+    → SinglyDone stop mode back-offset end entries size buf b2 met
 unfolding zeroed
-inserted-in mode back-offset end entries size buf {b1} {b2} {met} p q = subst (λ (b : List ℕ). EntriesInserted mode back-offset end entries b b2 met) p q
+inserted-in {stop} mode back-offset end entries size buf {b1} {b2} {met} p q =
+    subst (λ (b : List ℕ). EntriesInserted stop mode back-offset end entries b b2 met) p q

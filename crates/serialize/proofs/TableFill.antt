@@ -216,12 +216,12 @@ module _ (base : List ℕ) (o c : ℕ) (inside : o + 16 * c ≤ length base) (bu
   filling-start end pairs = record { table = fill-start pairs; apart = λ z full. tt }
 
   pub filling-end : {end : ℕ} → end ≤ o → {pairs : List ℕ} {i : ℕ} {buf : List ℕ} {met : Bool} → Filling buf₀ pairs end o c i buf met → c ≤ i
-      → PairsInserted base end o c pairs buf met
+      → (stop : Bool) → PairsInserted stop base end o c pairs buf met
   unfolding zeros
-  filling-end {end} behind {pairs} {i} f l =
+  filling-end {end} behind {pairs} {i} f l stop =
       let k : i ≡ c = omega (arith, f .table .few) in
       record {
-        leaves = fill-end (f .table) l;
+        leaves = λ _. fill-end (f .table) l;
         apart = λ z. subst (λ (g : List ℕ). Apart g (pairsIn pairs c)) (ap (take end) e ∙ take-sets zeros base end o behind)
             (subst (λ (j : ℕ). Apart (take end buf₀) (pairsIn pairs j)) k (f .apart z));
       }
@@ -282,30 +282,30 @@ filling-step {met = met} {one = one} f behind inside l h at eh ea sized done =
 
 -- ---- the table, as the code goes
 
-module _ (buf : List ℕ) (end o c : ℕ) where
+module _ {stop : Bool} (buf : List ℕ) (end o c : ℕ) where
   -- without entries
-  pub table-none : c ≡ 0 → TableDone buf end o c buf false
+  pub table-none : c ≡ 0 → TableDone stop buf end o c buf false
   unfolding tableFilled pairsStored filled insertAll cat
   table-none z =
-      subst (λ (n : ℕ). TableDone buf end o n buf false) (sym z) (record { leaves = go (leb (o + 16 * 0) (length buf)); apart = λ e full. tt })
+      subst (λ (n : ℕ). TableDone stop buf end o n buf false) (sym z) (record { leaves = λ _. go (leb (o + 16 * 0) (length buf)); apart = λ e full. tt })
     where
       go : (b : Bool) → buf ≡ cond b (sets buf o []) buf
       go true = refl
       go false = refl
 
   -- not in the buffer
-  pub table-left : length buf < o + 16 * c → TableDone buf end o c buf true
+  pub table-left : length buf < o + 16 * c → TableDone stop buf end o c buf true
   unfolding tableFilled
-  table-left h = record { leaves = rw (lt-leb (o + 16 * c) (length buf) h); apart = not-met }
+  table-left h = record { leaves = λ _. rw (lt-leb (o + 16 * c) (length buf) h); apart = not-met }
 
   pub table-filled : o + 16 * c ≤ length buf → {pairs buf′ : List ℕ} {met : Bool} → PairsCopied pairs buf o c
-      → PairsInserted buf end o c pairs buf′ met → TableDone buf end o c buf′ met
+      → PairsInserted stop buf end o c pairs buf′ met → TableDone stop buf end o c buf′ met
   unfolding tableFilled
   table-filled h copied done =
       let l = pairs-copied copied c (omega arith) in
       record {
-        leaves =
-            done .leaves ∙ ap (tableStored buf o c) l
+        leaves = λ on.
+            done .leaves on ∙ ap (tableStored buf o c) l
             ∙ sym (ap (λ (t : Bool). cond t (tableStored buf o c (pairsStored buf o c)) buf) (le-leb (o + 16 * c) (length buf) h));
         apart = λ z. subst (Apart (take end buf)) l (done .apart z);
       }

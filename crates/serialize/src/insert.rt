@@ -193,16 +193,18 @@ fn insert_entry(
     met
 }
 
-// The entries from 2,072 on, one after the other. Gives whether two of equal name were met.
+// The entries from 2,072 on, one after the other. Gives whether two of equal name were met; with `stop` it ends at the
+// first that meets one.
 pub(super) fn insert_entries(
     mode: Mode,
     back_offset: usize,
     buf: &mut [u8],
     end: usize,
     entries: u32,
+    stop: bool,
 ) -> bool
     requires { ⌜ InsertEntriesPre «back_offset» end (now buf) ⌝ }
-    ensures { λ r. ⌜ EntriesInserted mode «back_offset» end entries (now (buf .entry)) (now (buf .exit)) r ⌝ }
+    ensures { λ r. ⌜ EntriesInserted stop mode «back_offset» end entries (now (buf .entry)) (now (buf .exit)) r ⌝ }
 {
     let mut at = HEAD_SIZE;
     let mut left = entries;
@@ -213,6 +215,9 @@ pub(super) fn insert_entries(
             return true;
         }
         let one = insert_entry(mode, back_offset, &mut *buf, end, at, n);
+        if stop & one {
+            return true;
+        }
         met = met | one;
         at += 8 + n;
         left -= 1;
