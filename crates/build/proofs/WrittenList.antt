@@ -60,10 +60,18 @@ image-parts mode es X tail long n size =
     let R = cat (filling (placedIn es) X 0) (range 0 256) in
     let L = backWords (placedIn es) (backSizeOf mode es) in
     let whole : length (U ++ R ++ L) ≡ n =
-    omega (arith, size, length-append (U ++ R) L, length-append U R, length-upToEntries mode es, tables-long mode es X tail long 0,
-      length-backWords (placedIn es) (backSizeOf mode es)) in
-    (ap (λ (k : ℕ). take k (U ++ R ++ L ++ tail)) (sym whole) ∙ take-append-seam (U ++ R ++ L) tail ∙ sym (append-nil (U ++ R ++ L)),
-      drop-at (U ++ R ++ L) tail n whole)
+    omega (
+      arith,
+      size,
+      length-append (U ++ R) L,
+      length-append U R,
+      length-upToEntries mode es,
+      tables-long mode es X tail long 0,
+      length-backWords (placedIn es) (backSizeOf mode es),
+    ) in (
+      ap (λ (k : ℕ). take k (U ++ R ++ L ++ tail)) (sym whole) ∙ take-append-seam (U ++ R ++ L) tail ∙ sym (append-nil (U ++ R ++ L)),
+      drop-at (U ++ R ++ L) tail n whole,
+    )
 
 -- an image of es that was begun: what stands in the place of the entries, of the tables, and behind the image
 pub record Begun (mode : Mode) (es : List Entry) (b0 E X tail : List ℕ) : Type 0 where

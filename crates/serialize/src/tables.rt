@@ -87,7 +87,13 @@ fn fill_table(buf: &mut [u8], end: usize, o: usize, c: usize, copy: &mut [u32], 
 
 // All tables, one after the other, each over a copy of its pairs. Gives whether two entries of equal name were met;
 // with `stop` it ends at the first pair that meets one.
-fn fill_tables(buf: &mut [u8], counts: &[u32; 256], end: usize, copy: &mut [u32], stop: bool) -> bool
+fn fill_tables(
+    buf: &mut [u8],
+    counts: &[u32; 256],
+    end: usize,
+    copy: &mut [u32],
+    stop: bool,
+) -> bool
     requires { ⌜ FillTablesPre (now counts) end (now copy) ⌝ }
     ensures { λ r. ⌜ TablesDone stop (now (counts .entry)) end (now (buf .entry)) (now (buf .exit)) r ⌝ }
 {
