@@ -102,9 +102,6 @@ returns-2 c =
     let h = hashed w in
     record { count-fits = few (begun h); built = λ some. absurd (omega arith); behind = w .write-list .ensures .behind; rest = λ z. h .hash-list .ensures .rest }
 
-clear-words-requires : tie.Need-clear-words-requires
-clear-words-requires c κs = omega (arith, hashes-long (hashed (c .before .before .before .before .before .before .before)))
-
 returns-3 : tie.Need-returns-3
 returns-3 c =
     let z = c .before .before in
@@ -144,7 +141,7 @@ build-direct-spec =
     (λ c. search needs)
     (λ c. search needs)
     returns-2
-    clear-words-requires
+    (λ c κs. omega (arith, hashes-long (hashed (c .before .before .before .before .before .before .before))))
     (λ c. search needs)
     (λ c. search needs)
     (λ c. search needs)

@@ -25,12 +25,4 @@ returns c =
 
 pub begin-image-spec : {M : Type 1} → statement M
 begin-image-spec =
-    tie.close
-    (tie.spec
-    (λ c κs. search needs)
-    (λ c κs. search needs)
-    (λ c. search needs)
-    (λ c. search needs)
-    clear-bytes-requires
-    (λ c. search needs)
-    returns)
+    tie.close (tie.spec (λ c κs. search needs) (λ c κs. search needs) (λ c. search needs) (λ c. search needs) clear-bytes-requires (λ c. search needs) returns)

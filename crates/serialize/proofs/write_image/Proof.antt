@@ -39,9 +39,6 @@ room c =
 
 -- ---- the needs
 
-insert-singly-requires : tie.Need-insert-singly-requires
-insert-singly-requires c κs = room (c .before .before .before)
-
 returns : tie.Need-returns
 returns c =
     let b = c .before .before .before .before .before .before in
@@ -83,7 +80,7 @@ write-image-spec =
     (λ c κs. search needs)
     (λ c κs. search needs)
     (λ c κs. search needs)
-    insert-singly-requires
+    (λ c κs. room (c .before .before .before))
     (λ c. search needs)
     returns
     partition-entries-requires

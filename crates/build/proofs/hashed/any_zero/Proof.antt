@@ -21,9 +21,6 @@ Inv-loop bytes any₀ i₀ any i = Seen bytes any i
 abbrev μ-loop : tie.MeasureT-loop
 μ-loop bytes any₀ i₀ any i = length bytes - i
 
-loop-holds : tie.Need-loop-holds Inv-loop μ-loop
-loop-holds c = record { inside = omega arith; whole = refl }
-
 loop-again : tie.Need-loop-again Inv-loop μ-loop
 loop-again c =
     let l = c .before .before .loop in
@@ -43,7 +40,7 @@ any-zero-spec =
     (tie.spec
     Inv-loop
     μ-loop
-    loop-holds
+    (λ c. record { inside = omega arith; whole = refl })
     (λ c. search needs)
     (λ c. search needs)
     (λ c. search needs)

@@ -53,9 +53,6 @@ loop-holds c =
       puts = puts-start (s .pre .begun) (s .pre .list .head-fits) (s .pre .cleared);
     }
 
-nth-name-requires : tie.Need-nth-name-requires Inv-loop μ-loop
-nth-name-requires c κs = record { inside = c .loop-test .taken; ends-rise = start c .pre .list .packed }
-
 mul-put-name : tie.Need-mul-put-name Inv-loop μ-loop
 mul-put-name c =
     let e = c .before .before .before .before in
@@ -89,9 +86,6 @@ add-i : tie.Need-add-i Inv-loop μ-loop
 add-i c =
     let e = entered c in
     omega (arith, e .loop-test .taken, start e .good)
-
-loop-less : tie.Need-loop-less Inv-loop μ-loop
-loop-less c = omega (arith, entered c .loop-test .taken)
 
 loop-again : tie.Need-loop-again Inv-loop μ-loop
 loop-again c =
@@ -131,14 +125,14 @@ put-list-spec =
     Inv-loop
     μ-loop
     loop-holds
-    nth-name-requires
+    (λ c κs. record { inside = c .loop-test .taken; ends-rise = start c .pre .list .packed })
     mul-put-name
     shared-slice-read-put-name
     put-name-requires
     mul-refusals
     slice-write-refusals
     add-i
-    loop-less
+    (λ c. omega (arith, entered c .loop-test .taken))
     loop-again
     (λ c. search needs)
     (λ c. c .before .loop .inv .slots-length)

@@ -24,9 +24,6 @@ entry c =
     entry-in (c .before .before .before .before .before .before .pre) (l .buf) (l .inv .long) (l .at) (n .result) (l .inv .inside) (n .ensures .is)
     (n .ensures .small) (c .if1 .left)
 
-loop-holds : tie.Need-loop-holds Inv-loop μ-loop
-loop-holds c = record { inside = c .before .pre .low; long = refl; leaves = refl; unmet = λ z rest. rest }
-
 returns : tie.Need-returns Inv-loop μ-loop
 returns c =
     inserted-broken (c .before .before .before .before .loop .inv) (c .before .before .before .loop-test .taken)
@@ -56,18 +53,6 @@ next-word : (c : tie.After-insert-entry Inv-loop μ-loop)
     → let e = read c in e .before .before .before .before .loop .at + (8 + e .before .whole-length .result) < 4294967296
 next-word c = let e = read c in omega (arith, entry e .0, e .before .before .before .before .before .before .pre .end-word)
 
-add-at : tie.Need-add-at Inv-loop μ-loop
-add-at c = omega (arith, next-word (c .before .before .before))
-
-add-at-2 : tie.Need-add-at-2 Inv-loop μ-loop
-add-at-2 c = omega (arith, next-word (c .before .before .before))
-
-sub-left : tie.Need-sub-left Inv-loop μ-loop
-sub-left c = omega arith
-
-loop-less : tie.Need-loop-less Inv-loop μ-loop
-loop-less c = omega arith
-
 loop-again : tie.Need-loop-again Inv-loop μ-loop
 loop-again c =
     let e = read (c .before .before .before) in
@@ -76,26 +61,23 @@ loop-again c =
     (e .if1 .left)
     (entry e .0) (done .last .1 .1 .0) (done .kept .1 .1 .0) (done .ensures)
 
-returns-3 : tie.Need-returns-3 Inv-loop μ-loop
-returns-3 c = inserted-all (c .before .loop .inv) _ (omega arith)
-
 pub insert-entries-spec : {M : Type 1} → statement M
 insert-entries-spec =
     tie.close
     (tie.spec
     Inv-loop
     μ-loop
-    loop-holds
+    (λ c. record { inside = c .before .pre .low; long = refl; leaves = refl; unmet = λ z rest. rest })
     (λ c κs. search needs)
     (λ c. search needs)
     returns
     insert-entry-requires
     (λ c. search needs)
     returns-2
-    add-at
-    add-at-2
-    sub-left
-    loop-less
+    (λ c. omega (arith, next-word (c .before .before .before)))
+    (λ c. omega (arith, next-word (c .before .before .before)))
+    (λ c. omega arith)
+    (λ c. omega arith)
     loop-again
     (λ c. search needs)
-    returns-3)
+    (λ c. inserted-all (c .before .loop .inv) _ (omega arith)))

@@ -69,9 +69,6 @@ fill-table-requires c κs =
       copy-long = omega (arith, w .as-u64 .ensures .is, start l .pre .copies (l .loop .t) less, l .loop .inv .copy-long);
     }
 
-mul-o : tie.Need-mul-o Inv-loop μ-loop
-mul-o c = omega (arith, counted (c .before .before .before .before .before) .as-u64 .ensures .small)
-
 add-o : tie.Need-add-o Inv-loop μ-loop
 add-o c =
     let w = counted (c .before .before .before .before .before) in
@@ -129,7 +126,7 @@ fill-tables-spec =
     (λ c. search needs)
     (λ c. search needs)
     returns
-    mul-o
+    (λ c. omega (arith, counted (c .before .before .before .before .before) .as-u64 .ensures .small))
     add-o
     (λ c. search needs)
     (λ c. search needs)

@@ -18,10 +18,4 @@ returns c =
     inserted-in (a .mode) (a .back-offset) (a .end) (a .entries) (a .size) (a .buf .now) (cleared .clear-bytes .ensures) (c .before .before .insert-entries .ensures)
 
 pub insert-singly-spec : {M : Type 1} → statement M
-insert-singly-spec =
-    tie.close
-    (tie.spec
-    (λ c κs. search needs)
-    insert-entries-requires
-    (λ c. search needs)
-    returns)
+insert-singly-spec = tie.close (tie.spec (λ c κs. search needs) insert-entries-requires (λ c. search needs) returns)
