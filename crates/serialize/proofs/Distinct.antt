@@ -24,6 +24,7 @@ use Rattle.image.proofs.Parts.{placedIn}
 use Rattle.serialize.specs.steps.Insertion.{hashAt, entryInserted}
 use Rattle.serialize.specs.steps.Partition.{pairsStored, tableFilled}
 use Rattle.serialize.specs.steps.Meeting.{nameIn, sameNames, Pairwise, OtherNames, Apart, Distinct, RowUnmet, UnmetFrom, TablesApart}
+use Rattle.serialize.proofs.Choices.{never-true}
 use Rattle.serialize.proofs.HeadRows.{Counts}
 use Rattle.serialize.proofs.Pairwise.{all-before, pairwise-more, all-tested, pairwise-rest}
 use Rattle.serialize.proofs.PartialImage.{upToEntries, length-upToEntries, partial, entries-after}
@@ -72,13 +73,10 @@ module _ (front : List ℕ) where
 
   other : (p q : Placed) → Named p → Named q → (tableOf (hashOf (p .entry .name)) ≡ tableOf (hashOf (q .entry .name)) → OtherNames front (bucketOf p) (bucketOf q))
       → same (p .entry .name) (q .entry .name) ≡ false
-  other p q np nq told = go (same (p .entry .name) (q .entry .name)) refl
-    where
-      go : (b : Bool) → same (p .entry .name) (q .entry .name) ≡ b → b ≡ false
-      go true e =
-          let equal = same-true (p .entry .name) (q .entry .name) e in
-          sym e ∙ sym (ap₂ same np nq) ∙ told (ap (λ (x : List ℕ). tableOf (hashOf x)) equal) (ap hashOf equal)
-      go false e = refl
+  other p q np nq told =
+      never-true (same (p .entry .name) (q .entry .name)) (λ e.
+      let equal = same-true (p .entry .name) (q .entry .name) e in
+      sym (ap₂ same np nq) ∙ told (ap (λ (x : List ℕ). tableOf (hashOf x)) equal) (ap hashOf equal))
 
   entries-of : (P : Entry → Type 0) (o : ℕ) (es : List Entry) → All (λ (p : Placed). P (p .entry)) (placed o es) → All P es
   unfolding placed

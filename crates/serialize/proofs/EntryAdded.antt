@@ -18,6 +18,7 @@ use Rattle.image.proofs.Lists.{length-cat, filter-yes, filter-no, filter-append
 use Rattle.image.proofs.Sizes.{ofTable-append, filled-more, length-bucketBytes}
 use Rattle.image.proofs.Stores.{sets-part, sets-run}
 use Rattle.image.proofs.Parts.{bucketsOf, length-tablesOf-to}
+use Rattle.serialize.proofs.Choices.{cond-holds}
 use Rattle.serialize.proofs.PartialImage.{tableWith, tablesWith, length-tableWith}
 
 -- ---- the first empty bucket of a search
@@ -26,11 +27,8 @@ use Rattle.serialize.proofs.PartialImage.{tableWith, tablesWith, length
 pub firstEmpty-below : (f : ℕ → ℕ) (n m k : ℕ) → k < n → firstEmpty f (probeSequence n m k) < n
 unfolding firstEmpty probeSequence
 firstEmpty-below f n zero k h = omega arith
-firstEmpty-below f n (suc m) k h = go (eqb (f k) 0) (firstEmpty-below f n m (next n k) (mod-lt (k + 1) (omega arith)))
-  where
-    go : (b : Bool) → firstEmpty f (probeSequence n m (next n k)) < n → cond b k (firstEmpty f (probeSequence n m (next n k))) < n
-    go true i = h
-    go false i = i
+firstEmpty-below f n (suc m) k h =
+    cond-holds (λ (j : ℕ). j < n) (eqb (f k) 0) h (firstEmpty-below f n m (next n k) (mod-lt (k + 1) (omega arith)))
 
 -- ---- tables
 

@@ -20,6 +20,7 @@ use Rattle.serialize.specs.steps.Insertion.{hashAt, backStored}
 use Rattle.serialize.specs.steps.Partition.{tableOffsetsFrom, pairPut, advanced, PairAppended, partitioned, EntryPartitioned, partitionedFrom}
 use Rattle.serialize.specs.steps.Partition.{pairsStored, tableStored, tableFilled, tablesFrom}
 use Rattle.serialize.specs.steps.Meeting.{Apart, TablesApart}
+use Rattle.serialize.proofs.Choices.{cond-holds}
 
 -- ---- a pair
 
@@ -117,11 +118,9 @@ tables-step counts buf x o t n c h ec e inv =
 -- no byte before the table changes
 pub front-kept : (buf : List ℕ) (end o c : ℕ) → end ≤ o → take end (tableFilled buf o c) ≡ take end buf
 unfolding tableFilled
-front-kept buf end o c behind = go (leb (o + 16 * c) (length buf))
-  where
-    go : (b : Bool) → take end (cond b (tableStored buf o c (pairsStored buf o c)) buf) ≡ take end buf
-    go true = take-sets (cat bucketBytes (filled (2 * c) (pairsStored buf o c))) buf end o behind
-    go false = refl
+front-kept buf end o c behind =
+    cond-holds (λ (l : List ℕ). take end l ≡ take end buf) (leb (o + 16 * c) (length buf))
+    (take-sets (cat bucketBytes (filled (2 * c) (pairsStored buf o c))) buf end o behind) refl
 
 -- one table more is apart
 pub apart-next : (front counts buf : List ℕ) (o t n c : ℕ) {buf′ : List ℕ} {X : Type 0} → t < n → c ≡ getD counts t 0 → buf′ ≡ tableFilled buf o c

@@ -26,6 +26,7 @@ use Rattle.lookup_laws.proofs.SlotSearch.{none-equal}
 use Rattle.serialize.specs.steps.Insertion.{inserted}
 use Rattle.serialize.specs.steps.Meeting.{Pairwise, sameNames, OtherNames, Apart, bucketAt, PairInserted, PairsInserted, TableDone}
 use Rattle.serialize.specs.steps.Partition.{pairsStored, pairsIn, PairsCopied, tableStored, tableFilled}
+use Rattle.serialize.proofs.Choices.{cond-holds}
 use Rattle.serialize.proofs.PartialImage.{zeros-buckets}
 use Rattle.serialize.proofs.EntryAdded.{firstEmpty-below}
 use Rattle.serialize.proofs.InsertStep.{store-in}
@@ -287,11 +288,7 @@ module _ {stop : Bool} (buf : List ℕ) (end o c : ℕ) where
   pub table-none : c ≡ 0 → TableDone stop buf end o c buf false
   unfolding tableFilled pairsStored filled insertAll cat
   table-none z =
-      subst (λ (n : ℕ). TableDone stop buf end o n buf false) (sym z) (record { leaves = λ _. go (leb (o + 16 * 0) (length buf)); apart = λ e full. tt })
-    where
-      go : (b : Bool) → buf ≡ cond b (sets buf o []) buf
-      go true = refl
-      go false = refl
+      rw z (record { leaves = λ _. cond-holds (λ (l : List ℕ). buf ≡ l) (leb (o + 16 * 0) (length buf)) refl refl; apart = λ e full. tt })
 
   -- not in the buffer
   pub table-left : length buf < o + 16 * c → TableDone stop buf end o c buf true

@@ -22,6 +22,7 @@ use Rattle.image.proofs.AllOfList.{All, all-filter, all-image}
 use Rattle.image.proofs.At.{At, at-same, at-equal, at-left, at-right}
 use Rattle.image.proofs.Parts.{placedIn, before-most}
 use Rattle.serialize.specs.steps.Partition.{tableOffsetsFrom, partitionedFrom, pairsStored, tableFilled, tablesFrom}
+use Rattle.serialize.proofs.Choices.{cond-holds}
 use Rattle.serialize.proofs.HeadRows.{Counts}
 use Rattle.serialize.proofs.PartialImage.{upToEntries, length-upToEntries}
 use Rattle.serialize.proofs.InsertStep.{offsets, store-in}
@@ -63,11 +64,9 @@ module _ (mode : Mode) (es : List Entry) (X tail : List ℕ) (long : length X �
 
   sized : (t i : ℕ) → i < 256 → length (filling (placedIn es) X t i) ≡ 16 * count i (placedIn es)
   unfolding filling
-  sized t i h = go (ltb i t)
-    where
-      go : (b : Bool) → length (cond b (tableBytes (placedIn es) i) (areaWith (placedIn es) X (placedIn es) i)) ≡ 16 * count i (placedIn es)
-      go true = length-tableBytes (placedIn es) i
-      go false = length-areaWith (placedIn es) X long (placedIn es) i h (omega arith)
+  sized t i h =
+      cond-holds (λ (l : List ℕ). length l ≡ 16 * count i (placedIn es)) (ltb i t) (length-tableBytes (placedIn es) i)
+      (length-areaWith (placedIn es) X long (placedIn es) i h (omega arith))
 
   pub tables-long : (t : ℕ) → length (cat (filling (placedIn es) X t) (range 0 256)) ≡ 16 * length es
   tables-long t =

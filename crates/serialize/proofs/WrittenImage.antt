@@ -99,19 +99,14 @@ module _ (mode : Mode) (es : List Entry) (tail : List ℕ) (small : imageSize mo
           singly-imaged R L (omega (arith, length-append R L, tables-long mode es X tail long 0, length-backWords (placedIn es) (backSizeOf mode es))) e d
 
 -- what was done, told by other numbers that are the same
-pub singly-told : {stop : Bool} {mode : Mode} {l l′ end end′ entries entries′ n n′ : ℕ} (buf : List ℕ) {after : List ℕ} {met : Bool} → l ≡ l′ → end ≡ end′ → entries ≡ entries′ → n ≡ n′
-    → SinglyDone stop mode l end entries n buf after met → SinglyDone stop mode l′ end′ entries′ n′ buf after met
-singly-told {stop} {mode} {l} {l′} {end} {end′} {entries} {entries′} {n} {n′} buf {after} {met} el ee en es done =
-    subst (λ (k : ℕ). SinglyDone stop mode l′ end′ entries′ k buf after met) es
-    (subst (λ (k : ℕ). SinglyDone stop mode l′ end′ k n buf after met) en
-    (subst (λ (k : ℕ). SinglyDone stop mode l′ k entries n buf after met) ee (subst (λ (k : ℕ). SinglyDone stop mode k end entries n buf after met) el done)))
+module _ {stop : Bool} {mode : Mode} {l l′ end end′ entries entries′ n n′ : ℕ} (el : l ≡ l′) (ee : end ≡ end′) (en : entries ≡ entries′) (es : n ≡ n′) where
+  pub singly-told : (buf : List ℕ) {after : List ℕ} {met : Bool} → SinglyDone stop mode l end entries n buf after met
+      → SinglyDone stop mode l′ end′ entries′ n′ buf after met
+  singly-told buf done = rw (el, ee, en, es) at done
 
-pub all-told : {stop : Bool} {mode : Mode} {l l′ end end′ entries entries′ n n′ : ℕ} (counts buf : List ℕ) {after : List ℕ} {met : Bool} → l ≡ l′ → end ≡ end′ → entries ≡ entries′ → n ≡ n′
-    → AllDone stop mode l end entries n counts buf after met → AllDone stop mode l′ end′ entries′ n′ counts buf after met
-all-told {stop} {mode} {l} {l′} {end} {end′} {entries} {entries′} {n} {n′} counts buf {after} {met} el ee en es done =
-    subst (λ (k : ℕ). AllDone stop mode l′ end′ entries′ k counts buf after met) es
-    (subst (λ (k : ℕ). AllDone stop mode l′ end′ k n counts buf after met) en
-    (subst (λ (k : ℕ). AllDone stop mode l′ k entries n counts buf after met) ee (subst (λ (k : ℕ). AllDone stop mode k end entries n counts buf after met) el done)))
+  pub all-told : {counts buf after : List ℕ} {met : Bool} → AllDone stop mode l end entries n counts buf after met
+      → AllDone stop mode l′ end′ entries′ n′ counts buf after met
+  all-told done = rw (el, ee, en, es) at done
 
 -- ---- what is asked for before the image is written
 
@@ -196,8 +191,8 @@ module _ (mode : Mode) (end entries back : ℕ) (counts buf : List ℕ) (bytes :
       written
       (singly-imaged mode es tail image-small ids X L (omega (arith, length-append X L, area-long, length-placed headSize es, length-backWords [] (backSizeOf mode es)))
       (eb ∙ begun)
-      (singly-told b0 (el ∙ back-offset-is mode end entries back counts buf es numbers) (numbers .ends) (numbers .number)
-      (en ∙ size-is mode end entries back counts buf es numbers) done))
+      (singly-told (el ∙ back-offset-is mode end entries back counts buf es numbers) (numbers .ends) (numbers .number)
+      (en ∙ size-is mode end entries back counts buf es numbers) b0 done))
 
   -- by tables
   pub written-by-tables : {b0 b1 places after : List ℕ} {n l : ℕ} {met : Bool} → n ≡ finishedOf mode end entries back → l ≡ backOffsetOf mode end entries back
@@ -218,4 +213,4 @@ module _ (mode : Mode) (end entries back : ℕ) (counts buf : List ℕ) (bytes :
       ∙ parted-is mode es X tail counts area-long image-small (numbers .tallies) ids in
       written
       (all-imaged mode es tail image-small ids X counts area-long (numbers .tallies) parted
-      (all-told counts b1 offset (numbers .ends) (numbers .number) (en ∙ size-is mode end entries back counts buf es numbers) done))
+      (all-told offset (numbers .ends) (numbers .number) (en ∙ size-is mode end entries back counts buf es numbers) done))

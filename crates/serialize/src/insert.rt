@@ -1,7 +1,7 @@
 // Entries inserted one after the other into the hash tables and the back array.
 ghost use mathlib.Core.Path.{_≡_};
 ghost use mathlib.Core.List.{_++_};
-ghost use Prim.Native.Nat.{_+_, _<_, _≤_};
+ghost use Prim.Native.Nat.{ℕ, _+_, _<_, _≤_};
 ghost use lib.ListN.{length};
 ghost use lib.Seq.{sets};
 ghost use Rattle.image.specs.Bytes.{le32};
@@ -109,25 +109,39 @@ fn insert_beside(buf: &mut [u8], end: usize, o: usize, n: usize, h: u32, at: u32
     found.met
 }
 
-// A pair stored in the first empty bucket of its search among the n buckets at o. Gives whether an entry of equal name
-// was met. Names are compared elsewhere, where another pair has its hash, so that this loop stays small: 5 % of a list
-// in one call at 4,096 names.
-pub(super) fn insert_pair(buf: &mut [u8], end: usize, o: usize, n: usize, h: u32, at: u32) -> bool
-    requires { ⌜ ProbePre (now buf) end o n ⌝ }
-    ensures { λ r. ⌜ PairInserted (now (buf .entry)) end o n h at (now (buf .exit)) r ⌝ }
+// The first empty bucket of the search for hash h among the n buckets at o, if no bucket before it has this hash; n
+// otherwise.
+fn first_without_equal(buf: &[u8], o: usize, n: usize, h: u32) -> usize
+    requires { ⌜ ProbePre (now buf) 0 o n ⌝ }
+    ensures { λ r. ⌜ ((end at : ℕ) → r < n → Probed (now (buf .entry)) end o n h at r false) ⌝ }
 {
     let mut k = start(h, n);
     let mut left = n;
     while 0 < left {
-        if word(&*buf, o + 8 * k + 4) == 0 {
-            store_pair(&mut *buf, o + 8 * k, h, at);
-            return false;
+        if word(buf, o + 8 * k + 4) == 0 {
+            return k;
         }
-        if word(&*buf, o + 8 * k) == h {
-            return insert_beside(&mut *buf, end, o, n, h, at);
+        let other = word(buf, o + 8 * k);
+        if other == h {
+            return n;
         }
         k = next(k, n);
         left -= 1;
+    }
+    n
+}
+
+// A pair stored in the first empty bucket of its search among the n buckets at o. Gives whether an entry of equal name
+// was met. Names are compared elsewhere, where another pair has its hash, so that the search here stays small: 5 % of a
+// list in one call at 4,096 names.
+pub(super) fn insert_pair(buf: &mut [u8], end: usize, o: usize, n: usize, h: u32, at: u32) -> bool
+    requires { ⌜ ProbePre (now buf) end o n ⌝ }
+    ensures { λ r. ⌜ PairInserted (now (buf .entry)) end o n h at (now (buf .exit)) r ⌝ }
+{
+    let k = first_without_equal(&*buf, o, n, h);
+    if k < n {
+        store_pair(&mut *buf, o + 8 * k, h, at);
+        return false;
     }
     insert_beside(&mut *buf, end, o, n, h, at)
 }
