@@ -4,16 +4,15 @@ use native.Mathlib.Omega.{arith}
 use native.Mathlib.Decide.{ℕ-discrete}
 use native.Mathlib.Nat.{mod-lt}
 use mathlib.Core.Path.{_≡_, refl, sym, ap, ap₂, subst, _∙_}
-use mathlib.Core.Bool.{Bool, true, false}
+use mathlib.Core.Bool.{true, false}
 use mathlib.Core.List.{List, [], _∷_, _++_, map, append-nil, append-assoc}
-use lib.ListN.{length, getD, take, drop, length-append}
-use lib.Dec.{eqb}
+use lib.ListN.{length, take, drop, length-append}
 use borrow.Author.Tests.{eq-eqb}
 use Rattle.jhash.specs.NameHash.{hashOf}
 use Rattle.image.specs.Bytes.{same, cat, filter}
 use Rattle.image.specs.Tables.{Bucket, tableOf}
 use Rattle.image.specs.Image.{Entry, Placed, headSize, entryBytes, entrySize, entriesSize, placed, inTable, ofTable, count, bucketOf, entriesBefore}
-use Rattle.image.specs.Image.{tableRows, headWords, backWords, backSizeOf, backOffset, entriesEnd, imageSize}
+use Rattle.image.specs.Image.{tableRows, headWords, backOffset, entriesEnd, imageSize}
 use Rattle.image.specs.declared.Mode.{Mode}
 use Rattle.image.proofs.Equal.{same-true}
 use Rattle.image.proofs.Lists.{filter-yes}
@@ -71,7 +70,8 @@ module _ (front : List ℕ) where
   abbrev Named : Placed → Type 0
   Named p = nameIn front (p .at) ≡ p .entry .name
 
-  other : (p q : Placed) → Named p → Named q → (tableOf (hashOf (p .entry .name)) ≡ tableOf (hashOf (q .entry .name)) → OtherNames front (bucketOf p) (bucketOf q))
+  other : (p q : Placed) → Named p → Named q
+      → (tableOf (hashOf (p .entry .name)) ≡ tableOf (hashOf (q .entry .name)) → OtherNames front (bucketOf p) (bucketOf q))
       → same (p .entry .name) (q .entry .name) ≡ false
   other p q np nq told =
       never-true (same (p .entry .name) (q .entry .name)) (λ e.
@@ -139,7 +139,8 @@ module _ (mode : Mode) (es : List Entry) (X tail : List ℕ) (long : length X �
       (all-filter (λ (q : Placed). headSize ≤ q .at) (inTable t) (placedIn es) (above headSize es)) in
       let apart = subst (λ (g : List ℕ). TablesApart g counts (entriesEnd es) 0 256 (filledTo mode es X 0 tail)) (front-filled mode es X tail long) told in
       tables-distinct U headSize es (names-placed mode es (omega arith) es [] refl)
-      (λ t h. tables-apart 256 0 (omega arith) (subst (λ (k : ℕ). TablesApart front counts k 0 256 (filledTo mode es X 0 tail)) none apart) t (omega arith) h (full t))
+      (λ t h. tables-apart 256 0 (omega arith) (subst (λ (k : ℕ). TablesApart front counts k 0 256 (filledTo mode es X 0 tail)) none apart) t
+      (omega arith) h (full t))
 
 -- ---- one by one
 
@@ -164,17 +165,18 @@ module _ (mode : Mode) (es : List Entry) (tail : List ℕ) (small : imageSize mo
       let row : RowUnmet B end (hashOf (e .name)) at =
       subst (λ (name : List ℕ). RowUnmet B end (hashOf name) at) (name-found mode es qs rest e tail split small ids) (both .0) in
       let own = names-placed mode es (omega arith) (e ∷ rest) qs split .0 in
-      let earlier : All (λ (x : Placed). nameIn U (x .at) ≡ x .entry .name) (placedIn qs) =
-      all-before (λ (x : Placed). nameIn U (x .at) ≡ x .entry .name) (placedIn qs) (placed at (e ∷ rest))
-      (subst (All (λ (x : Placed). nameIn U (x .at) ≡ x .entry .name)) (ap (placed headSize) split ∙ placed-append headSize qs (e ∷ rest)) (names-placed mode es (omega arith) es [] refl)) in
+      let earlier : All (Named U) (placedIn qs) =
+      all-before (Named U) (placedIn qs) (placed at (e ∷ rest))
+      (subst (All (Named U)) (ap (placed headSize) split ∙ placed-append headSize qs (e ∷ rest)) (names-placed mode es (omega arith) es [] refl)) in
       let told-each = all-tested (λ (x : Bucket). x .hash ≡ hashOf (e .name) → sameNames U at (x .at) ≡ false) bucketOf (inTable t) (placedIn qs)
       (row-apart mode es qs rest e tail split small ids row) in
       let each : All (λ (x : Placed). same (x .entry .name) (e .name) ≡ false) (placedIn qs) =
       all-map (λ x h. other U x p (h .0) own (λ z. h .1 (eq-eqb (tableOf (hashOf (x .entry .name))) t z))) (placedIn qs)
-      (all-both (λ (x : Placed). nameIn U (x .at) ≡ x .entry .name) (λ (x : Placed). inTable t x ≡ true → OtherNames U (bucketOf x) (bucketOf p)) (placedIn qs) earlier told-each) in
+      (all-both (Named U) (λ (x : Placed). inTable t x ≡ true → OtherNames U (bucketOf x) (bucketOf p)) (placedIn qs) earlier told-each) in
       let later =
       subst (λ (k : ℕ). UnmetFrom mode o end (length rest) k (partial mode es (qs ++ e ∷ []) ++ tail)) (next-at qs e)
       (subst (λ (l : List ℕ). UnmetFrom mode o end (length rest) (at + (8 + n)) l) (step mode es qs rest e tail split small ids) (both .1)) in
       singly-distinct rest (qs ++ e ∷ []) (split ∙ sym (append-assoc qs (e ∷ []) rest))
-      (pairwise-more (λ (x y : Entry). same (x .name) (y .name) ≡ false) qs e two (entries-of U (λ (x : Entry). same (x .name) (e .name) ≡ false) headSize qs each))
+      (pairwise-more (λ (x y : Entry). same (x .name) (y .name) ≡ false) qs e two
+      (entries-of U (λ (x : Entry). same (x .name) (e .name) ≡ false) headSize qs each))
       later

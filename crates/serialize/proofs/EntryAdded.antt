@@ -3,7 +3,7 @@ use Prim.Native.Nat.{ℕ, zero, suc, _+_, _*_, _/_, _≤_, _<_}
 use native.Mathlib.Nat.{mod-lt}
 use native.Mathlib.Omega.{arith}
 use mathlib.Core.Path.{_≡_, refl, sym, ap, _∙_}
-use mathlib.Core.Bool.{Bool, true, false, cond}
+use mathlib.Core.Bool.{false}
 use mathlib.Core.List.{List, [], _∷_, _++_, map, map-append, append-nil}
 use lib.ListN.{length}
 use lib.Seq.{sets}
@@ -100,8 +100,8 @@ module _ (ps rs : List Placed) (p : Placed) where
       inside : 8 * place ps rs p + length (bucketBytes (bucketOf p)) ≤ length (cat bucketBytes (tableWith ps rs (ownTable p)))
       inside =
           let b = place-below h in
-          omega
-          (arith, length-bucketBytes (bucketOf p), length-cat bucketBytes 8 length-bucketBytes (tableWith ps rs (ownTable p)), length-tableWith ps rs (ownTable p))
+          let T = tableWith ps rs (ownTable p) in
+          omega (arith, length-bucketBytes (bucketOf p), length-cat bucketBytes 8 length-bucketBytes T, length-tableWith ps rs (ownTable p))
 
 -- ---- the back array
 

@@ -19,7 +19,8 @@ use Rattle.image.specs.declared.Mode.{Mode}
 use Rattle.image.specs.declared.Mode.the-variants.{Twoway, Oneway}
 use Rattle.image.proofs.Words.{length-le32}
 use Rattle.image.proofs.Lists.{cat-cons}
-use Rattle.image.proofs.Sizes.{length-entries, length-entryBytes, entriesSize-append, length-placed, placed-append, count-append, count-cons, length-bucketBytes, length-backWords}
+use Rattle.image.proofs.Sizes.{length-entries, length-entryBytes, entriesSize-append, length-placed, placed-append}
+use Rattle.image.proofs.Sizes.{count-append, count-cons, length-bucketBytes, length-backWords}
 use Rattle.image.proofs.Stores.{sets-left, sets-right-at}
 use Rattle.image.proofs.AllOfList.{All, all-map, all-middle, all-filter, all-image}
 use Rattle.image.proofs.Buckets.{filled-all, firstEmpty-ext}
@@ -247,7 +248,8 @@ module _ (mode : Mode) (es qs rest : List Entry) (e : Entry) (tail : List ℕ) (
       (bucket-of (placedIn es) (tableWith ps rs) (length-tableWith ps rs) (entriesEnd es) (tables-there mode es qs tail) u k u-below h))
       (offset-small k)
 
-  slot-there : firstEmpty (offsetAt B (entriesEnd es + 16 * entriesBefore u ps)) (probeSequence (2 * count u ps) (2 * count u ps) (start (hashOf (e .name)) (2 * count u ps)))
+  slot-there : firstEmpty (offsetAt B (entriesEnd es + 16 * entriesBefore u ps))
+      (probeSequence (2 * count u ps) (2 * count u ps) (start (hashOf (e .name)) (2 * count u ps)))
       ≡ place ps rs p
   unfolding place u p
   slot-there =

@@ -18,11 +18,12 @@ use Rattle.image.proofs.Between.{entry-room}
 use Rattle.image.specs.Stored.{between}
 use Rattle.image.specs.Tables.{start, probeSequence, firstEmpty}
 use Rattle.image.specs.steps.EntryLength.{wholeLength}
-use Rattle.image.specs.steps.Contracts.{BucketIs, TableIn, offsetAt}
+use Rattle.image.specs.steps.Contracts.{BucketIs, offsetAt}
 use Rattle.image.proofs.Bools.{false-not-true, or-false-first, or-false-second}
 use Rattle.serialize.specs.steps.Insertion.{holdsTable, inserted, insertedByRow, EntryPre, hashAt}
 use Rattle.serialize.specs.steps.Insertion.{backStored, entryInserted, InsertEntriesPre, insertedFrom}
-use Rattle.serialize.specs.steps.Meeting.{nameIn, Unmet, ProbePre, Probed, PairInserted, RowUnmet, RowInserted, EntryInserted, UnmetFrom, EntriesInserted, SinglyDone}
+use Rattle.serialize.specs.steps.Meeting.{nameIn, Unmet, ProbePre, Probed, PairInserted, RowUnmet, RowInserted, EntryInserted, UnmetFrom}
+use Rattle.serialize.specs.steps.Meeting.{EntriesInserted, SinglyDone}
 use Rattle.serialize.specs.steps.Written.{zeroed}
 
 -- ---- a pair
@@ -42,12 +43,6 @@ pair-inserted buf end o n h at k found p hash-word offset-word =
       offset-word = offset-word;
       unmet = found .unmet;
     }
-
--- in a buffer that is still as it was
-pub inserted-as : {buf buf₀ after : List ℕ} {end o n h at : ℕ} {met : Bool} → buf ≡ buf₀ → PairInserted buf end o n h at after met
-    → PairInserted buf₀ end o n h at after met
-inserted-as {after = after} {end = end} {o = o} {n = n} {h = h} {at = at} {met = met} e done =
-    subst (λ (b : List ℕ). PairInserted b end o n h at after met) e done
 
 -- the name of an entry, as it is read
 pub name-in-read : (f : List ℕ) (at n : ℕ) {name : List ℕ} → n ≡ wholeLength (between f at (length f)) → name ≡ take (n - 1) (drop (at + 8) f)
@@ -102,8 +97,8 @@ module _ (buf : List ℕ) (h at : ℕ) {o n : ℕ} {b : Bool} (is-o : o ≡ word
 
 -- ---- an entry
 
-pub entry-inserted : (mode : Mode) (back-offset : ℕ) (buf : List ℕ) (end at n : ℕ) {id h : ℕ} {b1 b2 : List ℕ} {met : Bool} → id ≡ word buf at → h ≡ hashAt buf at n
-    → RowInserted buf end h at b1 met → b2 ≡ backStored mode b1 back-offset id at → EntryInserted mode back-offset buf end at n b2 met
+pub entry-inserted : (mode : Mode) (back-offset : ℕ) (buf : List ℕ) (end at n : ℕ) {id h : ℕ} {b1 b2 : List ℕ} {met : Bool} → id ≡ word buf at
+    → h ≡ hashAt buf at n → RowInserted buf end h at b1 met → b2 ≡ backStored mode b1 back-offset id at → EntryInserted mode back-offset buf end at n b2 met
 unfolding entryInserted
 entry-inserted mode back-offset buf end at n ei eh p q =
     record {
@@ -129,7 +124,8 @@ pub record Inserting (mode : Mode) (back-offset end entries : ℕ) (buf₀ buf :
   pub leaves : insertedFrom mode back-offset end left at buf ≡ insertedFrom mode back-offset end entries 2072 buf₀
   pub unmet : met ≡ false → UnmetFrom mode back-offset end left at buf → UnmetFrom mode back-offset end entries 2072 buf₀
 
-module _ {mode : Mode} {back-offset end entries : ℕ} {buf₀ buf : List ℕ} {at left : ℕ} {met : Bool} (inv : Inserting mode back-offset end entries buf₀ buf at left met) where
+module _ {mode : Mode} {back-offset end entries : ℕ} {buf₀ buf : List ℕ} {at left : ℕ} {met : Bool}
+    (inv : Inserting mode back-offset end entries buf₀ buf at left met) where
   abbrev from : ℕ → List ℕ
   from n = insertedFrom mode back-offset end (left - 1) (at + (8 + n)) (entryInserted mode back-offset buf at n)
 
@@ -152,8 +148,8 @@ module _ {mode : Mode} {back-offset end entries : ℕ} {buf₀ buf : List ℕ} {
         let m : suc (left - 1) ≡ left = omega arith in
         inv .unmet z (subst (λ (k : ℕ). UnmetFrom mode back-offset end k at buf) m (subst Both is two))
 
-    pub inserted-step : (n ≡ 0 → ⊥) → at + (8 + n) ≤ end → (buf′ : List ℕ) → length buf′ ≡ length buf → {one : Bool} → EntryInserted mode back-offset buf end at n buf′ one
-        → Inserting mode back-offset end entries buf₀ buf′ (at + (8 + n)) (left - 1) (met || one)
+    pub inserted-step : (n ≡ 0 → ⊥) → at + (8 + n) ≤ end → (buf′ : List ℕ) → length buf′ ≡ length buf → {one : Bool}
+        → EntryInserted mode back-offset buf end at n buf′ one → Inserting mode back-offset end entries buf₀ buf′ (at + (8 + n)) (left - 1) (met || one)
     inserted-step some before buf′ same {one} done = record {
       inside = before;
       long = same ∙ inv .long;

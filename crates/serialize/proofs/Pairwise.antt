@@ -1,5 +1,5 @@
 -- What holds of each two elements of a list, and of those that pass a test. Assumes nothing.
-use mathlib.Core.Path.{_≡_, refl}
+use mathlib.Core.Path.{_≡_}
 use mathlib.Core.Bool.{Bool, true, false, cond}
 use mathlib.Core.List.{List, [], _∷_, _++_, map}
 use Rattle.image.specs.Bytes.{filter}

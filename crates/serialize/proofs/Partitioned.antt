@@ -29,7 +29,8 @@ use Rattle.serialize.specs.steps.Insertion.{hashAt, backStored}
 use Rattle.serialize.specs.steps.Partition.{pairPut, advanced, partitioned, partitionedFrom, tableOffsetsFrom}
 use Rattle.serialize.proofs.HeadRows.{Counts}
 use Rattle.serialize.proofs.PartialImage.{upToEntries, length-upToEntries, entries-after}
-use Rattle.serialize.proofs.InsertStep.{nextOf, next-at, placed-more, store-in, linked, entry-there, length-there, name-there, own-below, id-small, id-below, one-there, name-short, ends-there}
+use Rattle.serialize.proofs.InsertStep.{nextOf, next-at, placed-more, store-in, linked}
+use Rattle.serialize.proofs.InsertStep.{entry-there, length-there, name-there, own-below, id-small, id-below, one-there, name-short, ends-there}
 use Rattle.serialize.proofs.TableAreas.{areaWith, length-areas, length-areaWith, count-own, count-other, areas-more}
 
 -- ---- the entries in an image whose tables are not made yet
@@ -192,7 +193,8 @@ module _ (mode : Mode) (F : List ℕ) (es : List Entry) (X tail : List ℕ) (fro
         v : ℕ
         v = (getD places (tableOf (hashOf (e .name))) 0 + 8) % 4294967296
 
-        there : getD places (tableOf (hashOf (e .name))) 0 ≡ entriesEnd es + 16 * entriesBefore (tableOf (hashOf (e .name))) (placedIn es) + 8 * count (tableOf (hashOf (e .name))) (placedIn qs)
+        there : getD places (tableOf (hashOf (e .name))) 0
+            ≡ entriesEnd es + 16 * entriesBefore (tableOf (hashOf (e .name))) (placedIn es) + 8 * count (tableOf (hashOf (e .name))) (placedIn qs)
         there = next .each (tableOf (hashOf (e .name))) (own-below mode es qs rest e tail split fits ids)
 
         its-place : (t : ℕ) → t < 256 → Dec (t ≡ tableOf (hashOf (e .name)))
@@ -243,7 +245,8 @@ module _ (mode : Mode) (es : List Entry) (X tail : List ℕ) (long : length X �
 
   pub half-walked : imageSize mode es ≤ 4294967295 → All (λ (x : Entry). x .id < 2 ^ 32) es → (rest qs : List Entry) → es ≡ qs ++ rest → (places : List ℕ)
       → Places (entriesEnd es) (placedIn es) (placedIn qs) places
-      → partitionedFrom mode (backOffset mode es) (entriesEnd es) (length rest) (headSize + entriesSize qs) places (halfway mode (upToEntries mode es) es X qs tail)
+      → partitionedFrom mode (backOffset mode es) (entriesEnd es) (length rest) (headSize + entriesSize qs) places
+      (halfway mode (upToEntries mode es) es X qs tail)
       ≡ halfway mode (upToEntries mode es) es X es tail
   unfolding partitionedFrom
   half-walked fits ids [] qs split places next = ap (λ (l : List Entry). halfway mode U es X l tail) (sym (split ∙ append-nil qs))

@@ -1,6 +1,6 @@
 -- One table filled from its pairs: they are copied, its buckets are cleared, and each pair goes in its order into the
 -- first empty bucket of its search. Assumes nothing.
-use Prim.Native.Nat.{ℕ, zero, suc, _+_, _-_, _*_, _/_, _%_, _^_, _≤_, _<_}
+use Prim.Native.Nat.{ℕ, zero, suc, _+_, _-_, _*_, _/_, _^_, _≤_, _<_}
 use native.Mathlib.Omega.{arith}
 use native.Mathlib.Nat.{mod-lt}
 use native.Mathlib.Decide.{ℕ-discrete}
@@ -19,7 +19,7 @@ use Rattle.image.proofs.Between.{take-sets}
 use Rattle.image.proofs.Lists.{length-cat}
 use Rattle.image.proofs.Sizes.{length-bucketBytes, length-filled, filled-more}
 use Rattle.image.proofs.Stores.{sets-whole, sets-part}
-use Rattle.image.proofs.AllOfList.{All, all-append, all-map}
+use Rattle.image.proofs.AllOfList.{All, all-append}
 use Rattle.image.proofs.Buckets.{filled-all, firstEmpty-ext}
 use Rattle.image.proofs.At.{At, at-whole, at-same, at-equal, at-left, at-right, at-word, at-second, at-part}
 use Rattle.lookup_laws.proofs.SlotSearch.{none-equal}
@@ -153,15 +153,15 @@ module _ (buf T-buf : List ℕ) (T : List Bucket) (o n : ℕ) (long : length T �
 
 -- ---- a table from its pairs
 
-abbrev pub Small : List Bucket → Type 0
-Small bs = All (λ (b : Bucket). (b .hash < 2 ^ 32) × (b .at < 2 ^ 32)) bs
+abbrev pub Words : Bucket → Type 0
+Words b = (b .hash < 2 ^ 32) × (b .at < 2 ^ 32)
 
 -- i of the pairs are in the table of c entries at o
 pub record Filled (buf₀ pairs : List ℕ) (o c i : ℕ) (buf : List ℕ) : Type 0 where
   pub few : i ≤ c
   pub long : length buf ≡ length buf₀
   pub is : buf ≡ tableStored buf₀ o c (pairsIn pairs i)
-  pub small : Small (pairsIn pairs i)
+  pub small : All Words (pairsIn pairs i)
 
 -- the same, and if no entries of equal name met, the pairs are apart
 pub record Filling (buf₀ pairs : List ℕ) (end o c i : ℕ) (buf : List ℕ) (met : Bool) : Type 0 where
@@ -196,7 +196,8 @@ module _ (base : List ℕ) (o c : ℕ) (inside : o + 16 * c ≤ length base) (bu
       let T : List Bucket = replicate (2 * c) empty in
       let n : length (cat bucketBytes T) ≡ 16 * c =
       omega (arith, length-cat bucketBytes 8 length-bucketBytes T, length-replicate (2 * c) empty) in
-      let none : cat bucketBytes T ≡ zeros = zeros-buckets (2 * c) ∙ ap (λ (k : ℕ). replicate k 0) (n ∙ sym length-zeros ∙ length-replicate (o + 16 * c - o) 0) in
+      let none : cat bucketBytes T ≡ zeros =
+      zeros-buckets (2 * c) ∙ ap (λ (k : ℕ). replicate k 0) (n ∙ sym length-zeros ∙ length-replicate (o + 16 * c - o) 0) in
       record {
         few = omega arith;
         long = refl;
@@ -243,8 +244,8 @@ module _ {buf₀ pairs : List ℕ} {o c i : ℕ} {buf : List ℕ} (f : Filled bu
       let s : suc i ≡ i + 1 = omega arith in
       ap₂ (λ (v : ℕ) (w : ℕ). P ++ (pairOf v w ∷ [])) eh ea ∙ sym (pairs-suc pairs i) ∙ ap (pairsIn pairs) s
 
-  words : (k : ℕ) → (getD T k empty .hash < 2 ^ 32) × (getD T k empty .at < 2 ^ 32)
-  words = filled-all (λ (q : Bucket). (q .hash < 2 ^ 32) × (q .at < 2 ^ 32)) n P (omega arith, omega arith) (f .small)
+  words : (k : ℕ) → Words (getD T k empty)
+  words = filled-all Words n P (omega arith, omega arith) (f .small)
 
   module _ {end : ℕ} {buf′ : List ℕ} {met : Bool} (done : PairInserted buf end o (2 * c) h at buf′ met) where
     pub fill-step : length buf′ ≡ length buf → Filled buf₀ pairs o c (i + 1) buf′
@@ -256,7 +257,7 @@ module _ {buf₀ pairs : List ℕ} {o c i : ℕ} {buf : List ℕ} (f : Filled bu
           is =
               area-step buf₀ buf T o n (length-filled n P) (omega arith) (omega arith) (λ k. words k .1) (f .is) h at buf′ (done .stored)
               ∙ ap (λ (r : List Bucket). sets buf₀ o (cat bucketBytes r)) (sym (filled-more n P b) ∙ ap (filled n) more);
-          small = rw (← more) (all-append (λ (q : Bucket). (q .hash < 2 ^ 32) × (q .at < 2 ^ 32)) P (b ∷ []) (f .small) ((done .hash-word, done .offset-word), tt));
+          small = rw (← more) (all-append Words P (b ∷ []) (f .small) ((done .hash-word, done .offset-word), tt));
         }
 
     -- a pair whose search met no entry of equal name
@@ -270,7 +271,8 @@ module _ {buf₀ pairs : List ℕ} {o c i : ℕ} {buf : List ℕ} (f : Filled bu
         let other : All (λ (x : Bucket). x .hash ≡ h → sameNames (take end buf) at (x .at) ≡ false) P =
         none-equal table (omega arith) h (sameNames (take end buf) at) (omega (arith, length-pairs pairs i)) fulls (done .unmet z) in
         subst (λ (bs : List Bucket). Pairwise (OtherNames (take end buf₀)) bs) more
-        (pairwise-more (OtherNames (take end buf₀)) P b (apart fulls) (subst (λ (g : List ℕ). All (λ (x : Bucket). x .hash ≡ h → sameNames g at (x .at) ≡ false) P) front other))
+        (pairwise-more (OtherNames (take end buf₀)) P b (apart fulls)
+        (subst (λ (g : List ℕ). All (λ (x : Bucket). x .hash ≡ h → sameNames g at (x .at) ≡ false) P) front other))
 
 pub filling-step : {buf₀ pairs : List ℕ} {end o c i : ℕ} {buf buf′ : List ℕ} {met one : Bool} → Filling buf₀ pairs end o c i buf met → end ≤ o
     → o + 16 * c ≤ length buf₀ → i < c → (h at : ℕ) → h ≡ getD pairs (2 * i) 0 → at ≡ getD pairs (2 * i + 1) 0 → length buf′ ≡ length buf

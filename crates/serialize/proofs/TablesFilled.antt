@@ -3,7 +3,7 @@ use Prim.Native.Nat.{ℕ, zero, suc, _+_, _-_, _*_, _^_, _≤_, _<_}
 use native.Mathlib.Omega.{arith}
 use native.Mathlib.Decide.{decLt}
 use mathlib.Core.Path.{_≡_, refl, sym, ap, ap₂, _∙_}
-use mathlib.Core.Bool.{Bool, true, false, cond}
+use mathlib.Core.Bool.{Bool, true, cond}
 use mathlib.Core.List.{List, [], _++_, map, append-nil, append-assoc}
 use lib.ListN.{length, take, replicate, length-append, length-map}
 use lib.Seq.{sets, take-append-seam}
@@ -111,7 +111,8 @@ module _ (mode : Mode) (es : List Entry) (X tail : List ℕ) (long : length X �
     unfolding bs
     pairs-read-there = pairs-read o bs pairs-there words (count t ps) (sym (length-map (ofTable t ps) bucketOf))
 
-    pub pairs-are : pairsStored (filledTo mode es X t tail) (entriesEnd es + 16 * entriesBefore t (placedIn es)) (count t (placedIn es)) ≡ map bucketOf (ofTable t (placedIn es))
+    pub pairs-are : pairsStored (filledTo mode es X t tail) (entriesEnd es + 16 * entriesBefore t (placedIn es)) (count t (placedIn es))
+        ≡ map bucketOf (ofTable t (placedIn es))
     unfolding B o ps bs
     pairs-are = pairs-read-there
 
@@ -139,7 +140,8 @@ module _ (mode : Mode) (es : List Entry) (X tail : List ℕ) (long : length X �
         done =
             ap (λ (b : Bool). cond b (tableBytes (placedIn es) t) (areaWith (placedIn es) X (placedIn es) t)) (lt-ltb t (suc t) (omega arith))
 
-    pub table-step : tableFilled (filledTo mode es X t tail) (entriesEnd es + 16 * entriesBefore t (placedIn es)) (count t (placedIn es)) ≡ filledTo mode es X (suc t) tail
+    pub table-step : tableFilled (filledTo mode es X t tail) (entriesEnd es + 16 * entriesBefore t (placedIn es)) (count t (placedIn es))
+        ≡ filledTo mode es X (suc t) tail
     unfolding tableFilled B o ps bs filledTo tableBytes table
     table-step =
         let U = upToEntries mode es in
@@ -165,7 +167,8 @@ module _ (mode : Mode) (es : List Entry) (X tail : List ℕ) (long : length X �
         ∙ sym (append-assoc (U ++ cat (filling (placedIn es) X (suc t)) (range 0 256)) L tail)
 
   pub tables-walked : imageSize mode es ≤ 4294967295 → (counts : List ℕ) → Counts counts (placedIn es)
-      → (m t : ℕ) → t + m ≤ 256 → tablesFrom counts (entriesEnd es + 16 * entriesBefore t (placedIn es)) t m (filledTo mode es X t tail) ≡ filledTo mode es X (t + m) tail
+      → (m t : ℕ) → t + m ≤ 256
+      → tablesFrom counts (entriesEnd es + 16 * entriesBefore t (placedIn es)) t m (filledTo mode es X t tail) ≡ filledTo mode es X (t + m) tail
   unfolding tablesFrom
   tables-walked fits counts tallies zero t h = let z : t ≡ t + 0 = omega arith in ap (λ (k : ℕ). filledTo mode es X k tail) z
   tables-walked fits counts tallies (suc m) t h =
@@ -200,7 +203,8 @@ module _ (mode : Mode) (es : List Entry) (X tail counts : List ℕ) (long : leng
 
   -- the entries that stand in the buffer partitioned
   pub parted-is : All (λ (x : Entry). x .id < 2 ^ 32) es
-      → partitionedFrom mode (backOffset mode es) (entriesEnd es) (length es) headSize begins (upToEntries mode es ++ X ++ backWords [] (backSizeOf mode es) ++ tail)
+      → partitionedFrom mode (backOffset mode es) (entriesEnd es) (length es) headSize begins
+      (upToEntries mode es ++ X ++ backWords [] (backSizeOf mode es) ++ tail)
       ≡ filledTo mode es X 0 tail
   unfolding entriesSize
   parted-is ids =

@@ -18,13 +18,13 @@ use Rattle.image.proofs.Parts.{placedIn}
 use Rattle.image.proofs.AllOfList.{All}
 use Rattle.image.specs.Stored.{whole, between}
 use Rattle.image.proofs.EntryArea.{AllBytes, bytes-drop, bytes-take, length-entriesIn, whole-bytes, ids-words}
-use Rattle.serialize.specs.Serialize.{storedEntries, serialized}
+use Rattle.serialize.specs.Serialize.{storedEntries}
 use Rattle.serialize.specs.Record.{finishedOf}
 use Rattle.serialize.specs.steps.Preconditions.{ClosePrecondition}
 use Rattle.serialize.specs.steps.Insertion.{entryInserted, insertedFrom}
 use Rattle.serialize.specs.steps.Partition.{tableOffsetsFrom, partitionedFrom, tablesFrom}
 use Rattle.serialize.specs.steps.Written.{backOffsetOf, zeroed, begunImage}
-use Rattle.serialize.specs.steps.Meeting.{Distinct, UnmetFrom, TablesApart, EntriesInserted, TablesDone, SinglyDone, AllDone, ImageWritten}
+use Rattle.serialize.specs.steps.Meeting.{Distinct, UnmetFrom, TablesApart, TablesDone, SinglyDone, AllDone, ImageWritten}
 use Rattle.serialize.proofs.HeadRows.{Counts, counts-agree}
 use Rattle.serialize.proofs.PartialImage.{upToEntries, partial, partial-all}
 use Rattle.serialize.proofs.Cleared.{Numbers, size-is, back-offset-is, begun-is, cleared-partial}
@@ -188,9 +188,9 @@ module _ (mode : Mode) (end entries back : ℕ) (counts buf : List ℕ) (bytes :
       → b0 ≡ begunImage mode end entries back counts buf → SinglyDone false mode l end entries n b0 after met → ImageWritten mode end entries back buf after met
   written-singly {b0} en el eb done =
       let L = backWords [] (backSizeOf mode es) in
+      let long = length-backWords [] (backSizeOf mode es) in
       written
-      (singly-imaged mode es tail image-small ids X L (omega (arith, length-append X L, area-long, length-placed headSize es, length-backWords [] (backSizeOf mode es)))
-      (eb ∙ begun)
+      (singly-imaged mode es tail image-small ids X L (omega (arith, length-append X L, area-long, length-placed headSize es, long)) (eb ∙ begun)
       (singly-told (el ∙ back-offset-is mode end entries back counts buf es numbers) (numbers .ends) (numbers .number)
       (en ∙ size-is mode end entries back counts buf es numbers) b0 done))
 

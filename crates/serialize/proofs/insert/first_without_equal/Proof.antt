@@ -2,7 +2,7 @@
 -- whatever the names. Assumes nothing.
 use Prim.Native.Nat.{ℕ, _+_, _*_, _≤_}
 use native.Mathlib.Omega.{arith}
-use mathlib.Core.Path.{_≡_, sym, subst, _∙_}
+use mathlib.Core.Path.{sym, subst, _∙_}
 use mathlib.Core.Bool.{Bool, true}
 use lib.ListN.{length}
 use borrow.Author.Needs.{needs}
@@ -23,8 +23,9 @@ start c = c .before .before .before
 loop-holds : tie.Need-loop-holds Inv-loop μ-loop
 loop-holds c named =
     let s = c .before .before in
-    let b = bucketAt (s .args .buf .now) (s .args .o) in
-    subst (Remaining b named (s .args .h) (s .args .n) (s .args .n)) (sym (c .start .ensures .is)) (remaining-start b named (s .args .h) (s .args .n) (s .pre .some))
+    let a = s .args in
+    let b = bucketAt (a .buf .now) (a .o) in
+    subst (Remaining b named (a .h) (a .n) (a .n)) (sym (c .start .ensures .is)) (remaining-start b named (a .h) (a .n) (s .pre .some))
 
 -- the bucket lies in the buffer
 inside : (c : tie.At-loop Inv-loop μ-loop) → let a = start c .args in a .o + 8 * c .loop .k + 8 ≤ length (a .buf .now)

@@ -58,7 +58,8 @@ loop-again c =
     let done = p .partition-entry in
     let h = p .before .before .before in
     partitioned-step (entered e .before .loop .inv) (entered e .loop-test .taken) (e .before .whole-length .ensures .is) (e .if1 .left)
-    (entry e .0) (done .last .1 .1 .1 .0) (done .last .1 .1 .0) (done .kept .1 .1 .0) (h .before .before .get-u32 .ensures) (h .hash-at .ensures) (done .ensures)
+    (entry e .0) (done .last .1 .1 .1 .0) (done .last .1 .1 .0) (done .kept .1 .1 .0) (h .before .before .get-u32 .ensures) (h .hash-at .ensures)
+    (done .ensures)
 
 pub partition-entries-spec : {M : Type 1} → statement M
 partition-entries-spec =

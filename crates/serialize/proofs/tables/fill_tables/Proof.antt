@@ -94,7 +94,8 @@ loop-again c =
       front = ap (take (a .end)) leaves ∙ front-kept (l .buf) (a .end) (l .o) (w .as-u64 .result) (l .inv .behind) ∙ l .inv .front;
       apart = λ z. apart-next _ (a .counts .now) (l .buf) (l .o) (l .t) 256 (w .as-u64 .result) less (w .as-u64 .ensures .is) leaves
           (l .inv .apart (or-false-first (l .met) _ z))
-          (subst (λ (g : List ℕ). Apart g (pairsStored (l .buf) (l .o) (w .as-u64 .result))) (l .inv .front) (done .ensures .apart (or-false-second (l .met) _ z)));
+          (subst (λ (g : List ℕ). Apart g (pairsStored (l .buf) (l .o) (w .as-u64 .result))) (l .inv .front)
+          (done .ensures .apart (or-false-second (l .met) _ z)));
     }
 
 returns : tie.Need-returns Inv-loop μ-loop

@@ -17,7 +17,8 @@ abbrev μ-loop : tie.MeasureT-loop
 loop-holds : tie.Need-loop-holds Inv-loop μ-loop
 loop-holds c =
     let s = c .before .before .before .before .before .before in
-    filling-start (s .args .buf .now) (s .args .o) (s .args .c) (s .pre .inside) _ (c .before .before .clear-bytes .ensures) (s .args .end) (s .args .pairs .now)
+    let a = s .args in
+    filling-start (a .buf .now) (a .o) (a .c) (s .pre .inside) _ (c .before .before .clear-bytes .ensures) (a .end) (a .pairs .now)
 
 -- the table lies in the cleared buffer
 abbrev cleared : tie.At-loop Inv-loop μ-loop → tie.After-clear-bytes Inv-loop μ-loop
@@ -39,10 +40,11 @@ insert-pair-requires c κs =
 
 loop-again : tie.Need-loop-again Inv-loop μ-loop
 loop-again c =
-    let l = c .before .before .before .before .before .before .before .before in
+    let test = c .before .before .before .before .before .before .before in
+    let l = test .before in
     let pre = start l .pre in
-    filling-step (l .loop .inv) (pre .behind) (omega (arith, pre .inside, cleared l .clear-bytes .kept .0)) (c .before .before .before .before .before .before .before .loop-test .taken) _ _
-    refl refl (c .before .before .before .insert-pair .kept .0) (c .before .before .before .insert-pair .ensures)
+    filling-step (l .loop .inv) (pre .behind) (omega (arith, pre .inside, cleared l .clear-bytes .kept .0)) (test .loop-test .taken) _ _ refl refl
+    (c .before .before .before .insert-pair .kept .0) (c .before .before .before .insert-pair .ensures)
 
 returns : tie.Need-returns Inv-loop μ-loop
 returns c =
@@ -52,9 +54,10 @@ returns c =
 
 returns-2 : tie.Need-returns-2 Inv-loop μ-loop
 returns-2 c =
-    let clear = cleared (c .before) in
     let s = start (c .before) in
-    filling-end (s .args .buf .now) (s .args .o) (s .args .c) (s .pre .inside) _ (clear .clear-bytes .ensures) (s .pre .behind) (c .before .loop .inv) (c .loop-test .left) (s .args .stop)
+    let a = s .args in
+    filling-end (a .buf .now) (a .o) (a .c) (s .pre .inside) _ (cleared (c .before) .clear-bytes .ensures) (s .pre .behind) (c .before .loop .inv)
+    (c .loop-test .left) (a .stop)
 
 pub insert-pairs-spec : {M : Type 1} → statement M
 insert-pairs-spec =
