@@ -10,7 +10,8 @@ use Rattle.jhash.specs.NameHash.{hashOf}
 use Rattle.image.specs.declared.Mode.{Mode}
 use Rattle.image.specs.Stored.{between}
 use Rattle.image.specs.Bytes.{cat, range}
-use Rattle.image.specs.Image.{Entry, headSize, entryBytes, entriesSize, backIn, backSize, backSizeOf, backOffset, entriesEnd, imageSize, image, headWords, tableRows, backWords}
+use Rattle.image.specs.Image.{Entry, headSize, entryBytes, entriesSize, backIn, backSize, backSizeOf, backOffset, entriesEnd, imageSize, image}
+use Rattle.image.specs.Image.{headWords, tableRows, backWords}
 use Rattle.image.proofs.AllOfList.{All}
 use Rattle.image.proofs.Between.{length-between}
 use Rattle.image.proofs.Parts.{placedIn}
@@ -38,10 +39,11 @@ pub names-short : (bytes ends : List ℕ) → invalidEnds (length bytes) 0 ends 
     → (j : ℕ) → j < length ends → length (nth (names bytes ends) j) < 4294967295
 names-short bytes ends good small j h =
     let p = placed (length bytes) ends j good h in
-    omega
-    (arith, ap length (nth-name bytes ends j h) ∙ length-between bytes (beginOf ends j) (getD ends j 0) (p .rises) (p .inside), begin-next ends j, begins-rise (length bytes) ends good (length ends) (j + 1) (omega arith) (omega arith))
+    let size = ap length (nth-name bytes ends j h) ∙ length-between bytes (beginOf ends j) (getD ends j 0) (p .rises) (p .inside) in
+    omega (arith, size, begin-next ends j, begins-rise (length bytes) ends good (length ends) (j + 1) (omega arith) (omega arith))
 
-ids-listed : (xs : List (List ℕ)) (ids : List ℕ) → ((i : ℕ) → i < length xs → getD ids i 0 < 2 ^ 32) → All (λ (e : Entry). e .id < 2 ^ 32) (entriesListed xs ids)
+ids-listed : (xs : List (List ℕ)) (ids : List ℕ) → ((i : ℕ) → i < length xs → getD ids i 0 < 2 ^ 32)
+    → All (λ (e : Entry). e .id < 2 ^ 32) (entriesListed xs ids)
 unfolding callsOf puts
 ids-listed [] ids h = tt
 ids-listed (x ∷ xs) [] h = tt
@@ -59,16 +61,10 @@ image-parts mode es X tail long n size =
     let U = upToEntries mode es in
     let R = cat (filling (placedIn es) X 0) (range 0 256) in
     let L = backWords (placedIn es) (backSizeOf mode es) in
+    let size-of = tables-long mode es X tail long 0 in
+    let words = length-backWords (placedIn es) (backSizeOf mode es) in
     let whole : length (U ++ R ++ L) ≡ n =
-    omega (
-      arith,
-      size,
-      length-append (U ++ R) L,
-      length-append U R,
-      length-upToEntries mode es,
-      tables-long mode es X tail long 0,
-      length-backWords (placedIn es) (backSizeOf mode es),
-    ) in (
+    omega (arith, size, length-append (U ++ R) L, length-append U R, length-upToEntries mode es, size-of, words) in (
       ap (λ (k : ℕ). take k (U ++ R ++ L ++ tail)) (sym whole) ∙ take-append-seam (U ++ R ++ L) tail ∙ sym (append-nil (U ++ R ++ L)),
       drop-at (U ++ R ++ L) tail n whole,
     )
@@ -189,9 +185,9 @@ module _ {mode : Mode} {counts hashes buffer bytes ends ids : List ℕ} (pre : W
       unfolding entriesSize
       turn-room = omega (arith, g .offset, ap entriesSize split ∙ entriesSize-append (take i es) (e ∷ drop (suc i) es))
 
-      pub turn-step : {b1 b2 places′ : List ℕ} → b1 ≡ sets buf at (entryBytes (entryOf name (getD ids i 0))) → {l h : ℕ} → l ≡ backOffset mode (listEntries bytes ends ids)
-          → h ≡ getD hashes i 0 → EntryPartitioned mode l at (getD ids i 0) h places b1 places′ b2 → length b2 ≡ length b0
-          → Turn mode b0 bytes ends ids b2 places′ (at + (9 + length name)) (i + 1)
+      pub turn-step : {b1 b2 places′ : List ℕ} → b1 ≡ sets buf at (entryBytes (entryOf name (getD ids i 0))) → {l h : ℕ}
+          → l ≡ backOffset mode (listEntries bytes ends ids) → h ≡ getD hashes i 0 → EntryPartitioned mode l at (getD ids i 0) h places b1 places′ b2
+          → length b2 ≡ length b0 → Turn mode b0 bytes ends ids b2 places′ (at + (9 + length name)) (i + 1)
       unfolding entriesSize
       turn-step {b1} {b2} {places′} e1 el eh done same =
           let next = next-entry bytes ends ids (pre .list .ids-long) i below name named in
@@ -217,7 +213,7 @@ module _ {mode : Mode} {counts hashes buffer bytes ends ids : List ℕ} (pre : W
         (subst (λ (qs : List Entry). StoringTo mode es E X tail qs buf places at) all (g .storing E X tail (begun ee en eb e0))) in
         let parts = image-parts mode es X tail area n size in
         let made = all-imaged mode es [] small ids-all X counts area (pre .tallies) (ap (take n) is ∙ parts .0)
-        (all-told counts (take n buf) el ee en size done) in
+        (all-told el ee en size done) in
         let rest = ap (drop n) is ∙ parts .1 in
         record {
           sized = size;

@@ -5,7 +5,7 @@ use Rattle.image.proofs.Bools.{false-not-true}
 use mathlib.Core.Bool.{Bool, true, false, cond}
 use mathlib.Core.List.{List}
 use lib.ListN.{length}
-use Rattle.jhash.specs.Outcome.{Outcome, value, refusal}
+use Rattle.jhash.specs.Outcome.{Outcome, refusal}
 use Rattle.image.specs.declared.Mode.{Mode}
 use Rattle.writer.specs.declared.Repeats.{Repeats}
 use Rattle.build.specs.declared.Made.{Made}

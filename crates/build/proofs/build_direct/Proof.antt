@@ -4,7 +4,7 @@ use native.Mathlib.Omega.{arith}
 use mathlib.Core.Path.{_≡_, refl, sym, ap, _∙_}
 use mathlib.Core.Bool.{Bool, true, _&&_}
 use mathlib.Core.List.{List}
-use lib.ListN.{length, getD, take, drop, replicate, length-replicate}
+use lib.ListN.{length, getD, drop, replicate, length-replicate}
 use lib.Seq.{length-take-le, drop-at}
 use borrow.Author.Needs.{needs}
 use Rattle.packed.proofs.NameEnds.{begin-later, placed}
@@ -13,7 +13,7 @@ use Rattle.writer.specs.State.{refusesRepeats}
 use Rattle.build.specs.steps.Stores.{listEntries, NoZeros}
 use Rattle.build.proofs.Needed.{sum-small}
 use Rattle.build.proofs.WrittenList.{names-short}
-use Rattle.build.proofs.ListWhole.{refusals-cleared, names-zero-free, left-image, left-size, all-built}
+use Rattle.build.proofs.ListWhole.{refusals-cleared, names-zero-free, all-built}
 use Rattle.build.proofs.build_direct.Statement.{statement}
 use Rattle.build.proofs.build_direct.Tie as tie
 
@@ -60,8 +60,8 @@ slice-aggregate-any-zero : tie.Need-slice-aggregate-any-zero
 slice-aggregate-any-zero c =
     let s = c .before .before .before .before .before .before .before .before in
     let a = s .args in
-    let n = length (a .ends .now) in
-    sym (length-take-le _ (a .bytes .now) (placed (length (a .bytes .now)) (a .ends .now) (n - 1) (s .pre .list .packed) (omega (arith, s .pre .capacity .some)) .inside))
+    let last = placed (length (a .bytes .now)) (a .ends .now) (length (a .ends .now) - 1) (s .pre .list .packed) (omega (arith, s .pre .capacity .some)) in
+    sym (length-take-le _ (a .bytes .now) (last .inside))
 
 returns : tie.Need-returns
 returns c =
@@ -100,7 +100,8 @@ returns-2 : tie.Need-returns-2
 returns-2 c =
     let w = c .before .before .before .before .before .before in
     let h = hashed w in
-    record { count-fits = few (begun h); built = λ some. absurd (omega arith); behind = w .write-list .ensures .behind; rest = λ z. h .hash-list .ensures .rest }
+    let kept = w .write-list .ensures .behind in
+    record { count-fits = few (begun h); built = λ some. absurd (omega arith); behind = kept; rest = λ z. h .hash-list .ensures .rest }
 
 returns-3 : tie.Need-returns-3
 returns-3 c =
@@ -112,15 +113,16 @@ returns-3 c =
     let n = length (a .ends .now) in
     let on = z .before .before .if2 .left in
     let apart : refusesRepeats (a .repeats) ≡ true → Distinct (listEntries (a .bytes .now) (a .ends .now) (a .ids .now)) = λ off.
-    w .write-list .ensures .distinct (sym (ap (λ (b : Bool). b && w .write-list .result .met) (w .before .before .before .before .before .refuses .ensures ∙ off)) ∙ on) in
-    let leaves = left-image (a .mode) (s .pre .list) (s .pre .capacity .fits) (words (seen h)) (clean h) (w .write-list .ensures .leaves on) in
-    let cleared = refusals-cleared n _ (hashes-in h) (a .refusals .now) (z .clear-words .kept .0) (hashes-long h) (z .clear-words .ensures) (h .hash-list .ensures .rest) in
-    let built = all-built (a .mode) (s .pre .list) (s .pre .capacity .fits) (words (seen h)) (clean h) (a .repeats) apart
-    (w .write-list .ensures .sized ∙ sym (left-size (a .mode) (s .pre .list) (s .pre .capacity .fits) (words (seen h)) (clean h))) leaves cleared in
+    w .write-list .ensures .distinct
+    (sym (ap (λ (b : Bool). b && w .write-list .result .met) (w .before .before .before .before .before .refuses .ensures ∙ off)) ∙ on) in
+    let cleared = refusals-cleared n _ (hashes-in h) (a .refusals .now) (z .clear-words .kept .0) (hashes-long h) (z .clear-words .ensures)
+    (h .hash-list .ensures .rest) in
+    let done = w .write-list .ensures in
     record {
       count-fits = few s;
-      built = λ some. built;
-      behind = built .behind;
+      built = λ some. all-built (a .mode) (a .repeats) (s .pre .list) (s .pre .capacity .fits) (words (seen h)) (clean h) apart
+          (done .sized) (done .leaves on) (done .behind) cleared;
+      behind = done .behind;
       rest = λ y. ap (drop n) cleared ∙ drop-at (replicate n 0) (drop n (a .refusals .now)) n (length-replicate {A = ℕ} n 0);
     }
 

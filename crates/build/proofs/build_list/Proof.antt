@@ -51,7 +51,8 @@ returns-3 c =
     let k = d .build-direct .kept in
     let t = d .build-direct .ensures in
     let none : d .build-direct .result ≡ 0 = omega (arith, e .if2 .left) in
-    built-after (s .args .mode) (s .args .repeats) (s .pre) (word-ids (asked d)) (k .1 .1 .0) (t .behind) (k .1 .1 .1 .1 .1 .1 .0) (t .rest none) (b .build-singly2 .ensures)
+    built-after (s .args .mode) (s .args .repeats) (s .pre) (word-ids (asked d)) (k .1 .1 .0) (t .behind) (k .1 .1 .1 .1 .1 .1 .0) (t .rest none)
+    (b .build-singly2 .ensures)
 
 pub build-list-spec : {M : Type 1} → statement M
 build-list-spec =

@@ -1,8 +1,8 @@
 -- `build::build_singly` meets its contract. Assumes nothing.
-use Prim.Native.Nat.{ℕ, _^_, _≤_, _<_}
+use Prim.Native.Nat.{ℕ, _^_, _<_}
 use native.Mathlib.Omega.{arith}
 use mathlib.Core.Path.{_≡_, refl, sym, ap, _∙_}
-use mathlib.Core.List.{List, _++_}
+use mathlib.Core.List.{_++_}
 use lib.ListN.{length, getD, take, drop}
 use lib.Seq.{length-take-le}
 use borrow.Author.Needs.{needs}
@@ -77,9 +77,10 @@ returns c =
     let p = f .before .before .before .before .before .before .before .before .before in
     let s = begun p in
     let a = s .args in
+    let cs = listed (a .bytes .now) (a .ends .now) (a .ids .now) in
     list-built (a .mode) (a .repeats) (s .pre) (word-ids p) (leaves p) (f .finish-list .ensures)
     (p .put-list .ensures .answers
-    ∙ ap (λ (x : CQDBWriter). answersOf (x .mode) (x .repeats) (a .buf .now) (listed (a .bytes .now) (a .ends .now) (a .ids .now)) ++ drop (length (a .ends .now)) (a .refusals .now)) (opened p .begun .ensures))
+    ∙ ap (λ (x : CQDBWriter). answersOf (x .mode) (x .repeats) (a .buf .now) cs ++ drop (length (a .ends .now)) (a .refusals .now)) (opened p .begun .ensures))
 
 pub build-singly-spec : {M : Type 1} → statement M
 build-singly-spec =

@@ -1,10 +1,9 @@
 -- `writer::append` meets its contract. Assumes nothing.
-use Prim.Native.Nat.{ℕ, _<_}
+use Prim.Native.Nat.{_<_}
 use native.Mathlib.Omega.{arith}
 use native.Mathlib.Decide.{decLt}
-use mathlib.Core.Path.{_≡_, sym, _∙_}
+use mathlib.Core.Path.{sym, _∙_}
 use lib.ListN.{length}
-use Rattle.image.specs.Image.{Entry}
 use Rattle.image.proofs.Bools.{false-not-true}
 use Rattle.jhash.proofs.Outcomes.{result-refused, result-name-hash}
 use Rattle.writer.specs.State.{State, stateWith}
@@ -85,4 +84,6 @@ returns-2 c =
 
 pub append-spec : {M : Type 1} → statement M
 append-spec =
-    tie.close (tie.spec (λ c κs. search needs) (λ c. search needs) (λ c. search needs) returns raise-requires store-requires writer-after-put-requires (λ c. search needs) returns-2)
+    tie.close
+    (tie.spec (λ c κs. search needs) (λ c. search needs) (λ c. search needs) returns raise-requires store-requires writer-after-put-requires
+    (λ c. search needs) returns-2)

@@ -104,7 +104,8 @@ loop-again c =
       inside = omega (arith, e .loop-test .taken);
       buffer-length = search needs;
       slots-length = done .kept .1 .1 .1 .0 ∙ l .inv .slots-length;
-      puts = puts-turn g inside many room _ (named p .nth-name .ensures) (done .result .refusal) _ (done .last .1 .1 .1 .0) (done .ensures) (done .kept .1 .1 .1 .0);
+      puts = puts-turn g inside many room _ (named p .nth-name .ensures) (done .result .refusal) _ (done .last .1 .1 .1 .0) (done .ensures)
+          (done .kept .1 .1 .1 .0);
     }
 
 returns : tie.Need-returns Inv-loop μ-loop

@@ -6,14 +6,14 @@ use mathlib.Core.List.{List}
 use lib.ListN.{length, getD, take}
 use lib.Seq.{length-take-le}
 use borrow.Author.Needs.{needs}
-use Rattle.image.specs.Image.{Entry, headSize, backIn, backSizeOf, backOffset, entriesEnd, imageSize}
-use Rattle.packed.specs.Names.{beginOf}
+use Rattle.image.specs.Image.{Entry, headSize, backIn, backSizeOf, backOffset, imageSize}
 use Rattle.packed.proofs.NameEnds.{begin-later}
 use Rattle.serialize.proofs.Cleared.{Numbers, size-is, back-offset-is}
 use Rattle.serialize.proofs.WriteSteps.{backOffset-le}
 use Rattle.build.specs.steps.Stores.{listEntries}
 use Rattle.build.proofs.Needed.{sum-small}
-use Rattle.build.proofs.WrittenList.{names-short, Turn, small, within, as-many, end-is, back-of-all, numbers, turn-first, turn-room, turn-step, turn-last, length-back}
+use Rattle.build.proofs.WrittenList.{Turn, small, within, as-many, end-is, back-of-all, numbers, turn-first}
+use Rattle.build.proofs.WrittenList.{turn-room, turn-step, turn-last, length-back}
 use Rattle.build.proofs.stored.write_list.Statement.{statement}
 use Rattle.build.proofs.stored.write_list.Tie as tie
 
@@ -71,8 +71,8 @@ backs c =
     c .before .before .back-in .ensures ∙ ap (backIn (s .args .mode)) (counted c .back-of .ensures .is) ∙ back-of-all (s .pre) (words (counted c))
 
 known : (c : tie.After-back-offset Inv-loop μ-loop) → let s = start (counted c) in let ends = s .args .ends .now in
-    Numbers (s .args .mode) (headSize + 9 * length ends + getD ends (length ends - 1) 0) (length ends) (c .before .before .back-in .result) (s .args .counts .now)
-    (s .args .buf .now) (all s)
+    Numbers (s .args .mode) (headSize + 9 * length ends + getD ends (length ends - 1) 0) (length ends) (c .before .before .back-in .result)
+    (s .args .counts .now) (s .args .buf .now) (all s)
 known c =
     let s = start (counted c) in
     let w = words (counted c) in
@@ -92,8 +92,8 @@ offset-word : (c : tie.After-back-offset Inv-loop μ-loop) → c .back-offset .r
 offset-word c =
     let s = start (counted c) in
     let n = length (s .args .ends .now) in
-    omega
-    (arith, c .back-offset .ensures, backOffset-le (s .args .mode) (headSize + 9 * n + getD (s .args .ends .now) (n - 1) 0) n (c .before .before .back-in .result), sum s)
+    let end = headSize + 9 * n + getD (s .args .ends .now) (n - 1) 0 in
+    omega (arith, c .back-offset .ensures, backOffset-le (s .args .mode) end n (c .before .before .back-in .result), sum s)
 
 -- the name of a turn, and where its entry ends
 turn : (c : tie.After-nth-name Inv-loop μ-loop) → let l = entered c .before in l .loop .at + (length (c .nth-name .result .now) + 9) ≤ 4294967295
@@ -191,8 +191,8 @@ returns c =
     let t = told (begun l) in
     let s = from l in
     let w = words (counted t) in
-    turn-last (s .pre) w (l .loop .inv) (omega (arith, f .before .before .before .loop-test .left)) (offset t) (end-is (s .pre) w) (as-many (s .pre) w) (backs t)
-    (sized t) (begun l .begin-image .ensures .image) (f .fill-all .ensures) (filled-long f)
+    turn-last (s .pre) w (l .loop .inv) (omega (arith, f .before .before .before .loop-test .left)) (offset t) (end-is (s .pre) w) (as-many (s .pre) w)
+    (backs t) (sized t) (begun l .begin-image .ensures .image) (f .fill-all .ensures) (filled-long f)
 
 pub write-list-spec : {M : Type 1} → statement M
 write-list-spec =
