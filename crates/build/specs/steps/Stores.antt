@@ -56,6 +56,7 @@ pub record ListWritten (stop : Bool) (mode : Mode) (buffer bytes ends ids : List
     (bufferThen : List ℕ) : Type 0 where
   pub sized : size ≡ imageSize mode (listEntries bytes ends ids)
   pub leaves : (stop && met) ≡ false
-      → bufferThen ≡ image mode (listEntries bytes ends ids) ++ drop (imageSize mode (listEntries bytes ends ids)) buffer
+      → bufferThen
+      ≡ image mode (listEntries bytes ends ids) ++ drop (imageSize mode (listEntries bytes ends ids)) buffer
   pub behind : KeptBehind mode bytes ends ids buffer bufferThen
   pub distinct : met ≡ false → Distinct (listEntries bytes ends ids)
