@@ -5,7 +5,7 @@ use native.Mathlib.Numerals.{add-one}
 use native.Mathlib.Decide.{ℕ-discrete}
 use native.Mathlib.Nat.{mod-lt}
 use mathlib.Core.Path.{_≡_, refl, sym, ap, ap₂, subst, _∙_}
-use mathlib.Core.Bool.{Bool, true, false, _||_}
+use mathlib.Core.Bool.{Bool, _||_, or-false, or-assoc}
 use mathlib.Core.List.{List, [], _∷_, _++_, append-nil, append-assoc}
 use lib.ListN.{length, getD, set, take, drop, replicate, length-set, length-append, length-drop, length-take, length-replicate}
 use lib.ListN.{getD-replicate, drop-of-length-le}
@@ -46,22 +46,14 @@ unfolding hasZero
 any-zero-step bytes i b x h p =
     let e : suc i ≡ i + 1 = omega arith in
     let z = eqb (getD bytes i 0) 0 in
-    assoc b z (hasZero (drop (i + 1) bytes))
+    or-assoc b z (hasZero (drop (i + 1) bytes))
     ∙ ap (λ (k : ℕ). b || (z || hasZero (drop k bytes))) (sym e)
     ∙ sym (ap (λ (l : List ℕ). b || hasZero l) (drop-cons bytes i 0 h))
     ∙ p
-  where
-    assoc : (a b c : Bool) → ((a || b) || c) ≡ (a || (b || c))
-    assoc true b c = refl
-    assoc false b c = refl
 
 pub any-zero-end : (bytes : List ℕ) (i : ℕ) (b x : Bool) → length bytes ≤ i → (b || hasZero (drop i bytes)) ≡ x → b ≡ x
 unfolding hasZero
-any-zero-end bytes i b x h p = none b (ap (λ (l : List ℕ). b || hasZero l) (sym (drop-of-length-le bytes {i = i} h)) ∙ p)
-  where
-    none : (b : Bool) → (b || false) ≡ x → b ≡ x
-    none true q = q
-    none false q = q
+any-zero-end bytes i b x h p = sym (or-false b) ∙ ap (λ (l : List ℕ). b || hasZero l) (sym (drop-of-length-le bytes {i = i} h)) ∙ p
 
 -- ---- the first entries and the next one
 

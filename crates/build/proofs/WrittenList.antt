@@ -118,19 +118,12 @@ module _ {mode : Mode} {counts hashes buffer bytes ends ids : List ℕ} (pre : W
   ids-all = ids-listed (names bytes ends) ids (λ i h. words i (omega (arith, length-names bytes ends)))
 
   room : length E ≡ entriesSize es
-  room =
-      length-between buffer headSize (entriesEnd es) (omega arith) (omega (arith, within)) ∙ same (entriesSize es)
-    where
-      same : (n : ℕ) → headSize + n - headSize ≡ n
-      same n = omega arith
+  room = omega (arith, length-between buffer headSize (entriesEnd es) (omega arith) (omega (arith, within)))
 
   area : length X ≡ 16 * length (placedIn es)
   area =
-      length-between buffer (entriesEnd es) (entriesEnd es + 16 * length es) (omega arith) (omega (arith, within))
-      ∙ same (entriesEnd es) (length es) (length-placed headSize es)
-    where
-      same : (a n : ℕ) {m : ℕ} → m ≡ n → a + 16 * n - a ≡ 16 * m
-      same a n e = omega arith
+      let end = entriesEnd es in
+      omega (arith, length-between buffer end (end + 16 * length es) (omega arith) (omega (arith, within)), length-placed headSize es)
 
   pub numbers : {end entries back : ℕ} → end ≡ entriesEnd (listEntries bytes ends ids) → entries ≡ length (listEntries bytes ends ids)
       → back ≡ backSizeOf mode (listEntries bytes ends ids) → Numbers mode end entries back counts buffer (listEntries bytes ends ids)

@@ -6,19 +6,19 @@ use native.Mathlib.Nat.{mod-lt}
 use mathlib.Core.Path.{_≡_, refl, sym, ap, ap₂, subst, _∙_}
 use mathlib.Core.Bool.{true, false}
 use mathlib.Core.List.{List, [], _∷_, _++_, map, append-nil, append-assoc}
-use lib.ListN.{length, take, drop, length-append}
+use lib.ListN.{length, take, drop}
 use borrow.Author.Tests.{eq-eqb}
 use Rattle.jhash.specs.NameHash.{hashOf}
 use Rattle.image.specs.Bytes.{same, cat, filter}
 use Rattle.image.specs.Tables.{Bucket, tableOf}
 use Rattle.image.specs.Image.{Entry, Placed, headSize, entryBytes, entrySize, entriesSize, placed, inTable, ofTable, count, bucketOf, entriesBefore}
-use Rattle.image.specs.Image.{tableRows, headWords, backOffset, entriesEnd, imageSize}
+use Rattle.image.specs.Image.{backOffset, entriesEnd, imageSize}
 use Rattle.image.specs.declared.Mode.{Mode}
 use Rattle.image.proofs.Equal.{same-true}
 use Rattle.image.proofs.Lists.{filter-yes}
-use Rattle.image.proofs.Sizes.{length-entries, entriesSize-append, placed-append, length-headWords, length-tableRows, before-suc}
+use Rattle.image.proofs.Sizes.{length-entries, entriesSize-append, placed-append, before-suc}
 use Rattle.image.proofs.AllOfList.{All, all-map, all-both, all-filter, all-image}
-use Rattle.image.proofs.At.{At, at-whole, at-same, at-right}
+use Rattle.image.proofs.At.{At}
 use Rattle.image.proofs.Parts.{placedIn}
 use Rattle.serialize.specs.steps.Insertion.{hashAt, entryInserted}
 use Rattle.serialize.specs.steps.Partition.{pairsStored, tableFilled}
@@ -30,24 +30,20 @@ use Rattle.serialize.proofs.PartialImage.{upToEntries, length-upToEntri
 use Rattle.serialize.proofs.EntryAdded.{ownTable}
 use Rattle.serialize.proofs.InsertStep.{length-there, name-there, next-at, above, length-found, name-found, step, row-apart}
 use Rattle.serialize.proofs.TablesFilled.{filledTo, front-filled, table-step, pairs-are}
+use Rattle.serialize.proofs.Partitioned.{entries-in}
 
 -- ---- names that are read in the bytes up to the end of the entries
 
 module _ (mode : Mode) (es : List Entry) (fits : entriesEnd es ≤ 4294967295) where
-  entries-in : At (upToEntries mode es) headSize (cat entryBytes es)
-  unfolding upToEntries
-  entries-in =
-      let H = headWords mode es in
-      let R = tableRows (entriesEnd es) (placedIn es) in
-      let sum : 0 + length (H ++ R) ≡ headSize = omega (arith, length-append H R, length-headWords mode es, length-tableRows (entriesEnd es) (placedIn es)) in
-      at-same sum (at-right (H ++ R) (cat entryBytes es) (at-whole (upToEntries mode es)))
+  entries-up : At (upToEntries mode es) headSize (cat entryBytes es)
+  entries-up = rw append-nil at (entries-in mode es [])
 
   name-in : (qs rest : List Entry) (e : Entry) → es ≡ qs ++ e ∷ rest → nameIn (upToEntries mode es) (headSize + entriesSize qs) ≡ e .name
   unfolding nameIn entriesSize
   name-in qs rest e split =
       let U = upToEntries mode es in
       let at = headSize + entriesSize qs in
-      let there = entries-after es (e ∷ rest) qs entries-in split in
+      let there = entries-after es (e ∷ rest) qs entries-up split in
       let sizes : entriesSize es ≡ entriesSize qs + entriesSize (e ∷ rest) = ap entriesSize split ∙ entriesSize-append qs (e ∷ rest) in
       let end : length U ≡ at + length (cat entryBytes (e ∷ rest)) = omega (arith, length-upToEntries mode es, length-entries (e ∷ rest)) in
       ap (λ (k : ℕ). take (k - 1) (drop (at + 8) U)) (length-there at e rest there (length U) end (omega arith))

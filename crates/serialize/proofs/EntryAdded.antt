@@ -1,5 +1,5 @@
 -- One entry more in tables and back array: one bucket of one table changes, and one word of the back array. Assumes nothing.
-use Prim.Native.Nat.{ℕ, zero, suc, _+_, _*_, _/_, _≤_, _<_}
+use Prim.Native.Nat.{ℕ, zero, suc, _+_, _*_, _/_, _^_, _≤_, _<_}
 use native.Mathlib.Nat.{mod-lt}
 use native.Mathlib.Omega.{arith}
 use mathlib.Core.Path.{_≡_, refl, sym, ap, _∙_}
@@ -11,7 +11,7 @@ use lib.Dec.{eqb, lit<}
 use borrow.Author.Tests.{eq-eqb, ne-eqb}
 use Rattle.jhash.specs.NameHash.{hashOf}
 use Rattle.image.specs.Bytes.{le32, cat, filter, range}
-use Rattle.image.specs.Tables.{tableOf, start, next, probeSequence, firstEmpty, atOf, insert, filled}
+use Rattle.image.specs.Tables.{Bucket, tableOf, start, next, probeSequence, firstEmpty, atOf, insert, filled}
 use Rattle.image.specs.Image.{Placed, inTable, ofTable, count, bucketOf, bucketBytes, entriesBefore, hasId, placedOfId, lastFrom, backWord, backWords}
 use Rattle.image.proofs.Words.{length-le32}
 use Rattle.image.proofs.Lists.{length-cat, filter-yes, filter-no, filter-append, length-range}
@@ -20,6 +20,8 @@ use Rattle.image.proofs.Stores.{sets-part, sets-run}
 use Rattle.image.proofs.Parts.{bucketsOf, length-tablesOf-to}
 use Rattle.serialize.proofs.Choices.{cond-holds}
 use Rattle.serialize.proofs.PartialImage.{tableWith, tablesWith, length-tableWith}
+use Rattle.image.proofs.At.{At, at-left, at-word, at-second}
+use Rattle.serialize.specs.steps.Meeting.{bucketAt}
 
 -- ---- the first empty bucket of a search
 
@@ -29,6 +31,18 @@ unfolding firstEmpty probeSequence
 firstEmpty-below f n zero k h = omega arith
 firstEmpty-below f n (suc m) k h =
     cond-holds (λ (j : ℕ). j < n) (eqb (f k) 0) h (firstEmpty-below f n m (next n k) (mod-lt (k + 1) (omega arith)))
+
+-- ---- a bucket as it is read
+
+abbrev pub Words : Bucket → Type 0
+Words b = (b .hash < 2 ^ 32) × (b .at < 2 ^ 32)
+
+pub bucket-read : {img : List ℕ} (o k : ℕ) (b : Bucket) → At img (o + 8 * k) (bucketBytes b) → Words b → bucketAt img o k ≡ b
+unfolding bucketBytes
+bucket-read o k b there small =
+    let hash = at-word (b .hash) (at-left (le32 (b .hash)) (le32 (b .at)) there) (small .0) in
+    let at = at-word (b .at) (at-second (b .hash) (b .at) there) (small .1) in
+    λ i. record { hash = hash i; at = at i }
 
 -- ---- tables
 

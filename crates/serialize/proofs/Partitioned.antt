@@ -35,7 +35,7 @@ use Rattle.serialize.proofs.TableAreas.{areaWith, length-areas, length-
 
 -- ---- the entries in an image whose tables are not made yet
 
-entries-in : (mode : Mode) (es : List Entry) (rest : List ℕ) → At (upToEntries mode es ++ rest) headSize (cat entryBytes es)
+pub entries-in : (mode : Mode) (es : List Entry) (rest : List ℕ) → At (upToEntries mode es ++ rest) headSize (cat entryBytes es)
 unfolding upToEntries
 entries-in mode es rest =
     let H = headWords mode es in
@@ -184,18 +184,11 @@ module _ (mode : Mode) (F : List ℕ) (es : List Entry) (X tail : List ℕ) (fro
         (sym (placed-more qs e))
 
     pub half-places : Places (entriesEnd es) (placedIn es) (placedIn (qs ++ e ∷ [])) (advanced places (hashOf (e .name)))
-    unfolding advanced
+    unfolding advanced u ps rs
     half-places = rw (placed-more qs e) (record { many = length-set places u v ∙ next .many; each = λ t h. its-place t h (ℕ-discrete t u) })
       where
-        u : ℕ
-        u = tableOf (hashOf (e .name))
-
         v : ℕ
         v = (getD places (tableOf (hashOf (e .name))) 0 + 8) % 4294967296
-
-        there : getD places (tableOf (hashOf (e .name))) 0
-            ≡ entriesEnd es + 16 * entriesBefore (tableOf (hashOf (e .name))) (placedIn es) + 8 * count (tableOf (hashOf (e .name))) (placedIn qs)
-        there = next .each (tableOf (hashOf (e .name))) (own-below mode es qs rest e tail split fits ids)
 
         its-place : (t : ℕ) → t < 256 → Dec (t ≡ tableOf (hashOf (e .name)))
             → getD (set places (tableOf (hashOf (e .name))) ((getD places (tableOf (hashOf (e .name))) 0 + 8) % 4294967296)) t 0
@@ -205,11 +198,11 @@ module _ (mode : Mode) (F : List ℕ) (es : List Entry) (X tail : List ℕ) (fro
             let x = getD places w 0 + 8 in
             let below = own-below mode es qs rest e tail split fits ids in
             let one = one-there mode es qs rest e tail split fits ids in
-            let small : x < 4294967296 = omega (arith, there, before-most (placedIn es) w below, length-placed headSize es) in
+            let small : x < 4294967296 = omega (arith, place-there, before-most (placedIn es) w below, length-placed headSize es) in
             rw y
             (getD-set-same places w (x % 4294967296) 0 (omega (arith, next .many))
             ∙ mod-eq-of-lt small
-            ∙ omega (arith, there, count-own (placedIn es) X long (placedIn qs) (nextOf qs e)))
+            ∙ omega (arith, place-there, count-own (placedIn es) X long (placedIn qs) (nextOf qs e)))
         its-place t h (no z) =
             let w = tableOf (hashOf (e .name)) in
             getD-set-other places w t ((getD places w 0 + 8) % 4294967296) 0 z

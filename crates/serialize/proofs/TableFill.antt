@@ -1,6 +1,6 @@
 -- One table filled from its pairs: they are copied, its buckets are cleared, and each pair goes in its order into the
 -- first empty bucket of its search. Assumes nothing.
-use Prim.Native.Nat.{ℕ, zero, suc, _+_, _-_, _*_, _/_, _^_, _≤_, _<_}
+use Prim.Native.Nat.{ℕ, zero, suc, _+_, _-_, _*_, _/_, _≤_, _<_}
 use native.Mathlib.Omega.{arith}
 use native.Mathlib.Nat.{mod-lt}
 use native.Mathlib.Decide.{ℕ-discrete}
@@ -11,7 +11,7 @@ use lib.ListN.{length, getD, set, take, drop, replicate, length-replicate, lengt
 use lib.Seq.{sets, sets-eq, length-sets, length-take-le, getD-set-same, getD-set-other}
 use lib.Dec.{leb}
 use borrow.Author.Tests.{le-leb, lt-leb}
-use Rattle.image.specs.Bytes.{word, le32, cat}
+use Rattle.image.specs.Bytes.{word, cat}
 use Rattle.image.specs.Tables.{Bucket, empty, start, probeSequence, firstEmpty, atOf, insert, insertAll, filled, Filled as TableIs}
 use Rattle.image.specs.Image.{bucketBytes}
 use Rattle.image.proofs.Bools.{or-false-first, or-false-second}
@@ -21,14 +21,15 @@ use Rattle.image.proofs.Sizes.{length-bucketBytes, length-filled, filled-more}
 use Rattle.image.proofs.Stores.{sets-whole, sets-part}
 use Rattle.image.proofs.AllOfList.{All, all-append}
 use Rattle.image.proofs.Buckets.{filled-all, firstEmpty-ext}
-use Rattle.image.proofs.At.{At, at-whole, at-same, at-equal, at-left, at-right, at-word, at-second, at-part}
+use Rattle.image.proofs.At.{At, at-whole, at-same, at-equal, at-left, at-right, at-part}
+use Rattle.image.specs.steps.Contracts.{offsetAt}
 use Rattle.lookup_laws.proofs.SlotSearch.{none-equal}
 use Rattle.serialize.specs.steps.Insertion.{inserted}
 use Rattle.serialize.specs.steps.Meeting.{Pairwise, sameNames, OtherNames, Apart, bucketAt, PairInserted, PairsInserted, TableDone}
 use Rattle.serialize.specs.steps.Partition.{pairsStored, pairsIn, PairsCopied, tableStored, tableFilled}
 use Rattle.serialize.proofs.Choices.{cond-holds}
 use Rattle.serialize.proofs.PartialImage.{zeros-buckets}
-use Rattle.serialize.proofs.EntryAdded.{firstEmpty-below}
+use Rattle.serialize.proofs.EntryAdded.{firstEmpty-below, Words, bucket-read}
 use Rattle.serialize.proofs.InsertStep.{store-in}
 use Rattle.serialize.proofs.Insertion.{not-met}
 use Rattle.serialize.proofs.Pairwise.{all-before, pairwise-more}
@@ -106,55 +107,34 @@ stored-at l vs o r =
     (at-left (take o l ++ vs) (drop (o + length vs) l) (at-equal (sets-eq vs l o r) (at-whole (sets l o vs)))))
 
 module _ (buf T-buf : List ℕ) (T : List Bucket) (o n : ℕ) (long : length T ≡ n) (inside : o + 8 * n ≤ length buf) (some : 0 < n)
-    (small : (k : ℕ) → atOf T k < 2 ^ 32) (is : T-buf ≡ sets buf o (cat bucketBytes T)) where
+    (small : (k : ℕ) → Words (getD T k empty)) (is : T-buf ≡ sets buf o (cat bucketBytes T)) where
   size : length (cat bucketBytes T) ≡ 8 * n
   size = length-cat bucketBytes 8 length-bucketBytes T ∙ ap (λ (k : ℕ). 8 * k) long
 
-  seen : (k : ℕ) → k < n → word (sets buf o (cat bucketBytes T)) (o + 8 * k + 4) ≡ atOf T k
-  unfolding bucketBytes
-  seen k h =
-      let b = getD T k empty in
-      at-word (b .at)
-      (at-second (b .hash) (b .at)
-      (at-part bucketBytes 8 length-bucketBytes o T k empty (stored-at buf (cat bucketBytes T) o (omega (arith, size))) (rw long h)))
-      (small k)
-
-  seen-hash : ((k : ℕ) → getD T k empty .hash < 2 ^ 32) → (k : ℕ) → k < n → word (sets buf o (cat bucketBytes T)) (o + 8 * k) ≡ getD T k empty .hash
-  unfolding bucketBytes
-  seen-hash hashes k h =
-      let b = getD T k empty in
-      at-word (b .hash)
-      (at-left (le32 (b .hash)) (le32 (b .at))
-      (at-part bucketBytes 8 length-bucketBytes o T k empty (stored-at buf (cat bucketBytes T) o (omega (arith, size))) (rw long h)))
-      (hashes k)
-
   -- the buckets that stand there
-  pub buckets-are : ((k : ℕ) → getD T k empty .hash < 2 ^ 32) → (k : ℕ) → k < n → bucketAt T-buf o k ≡ getD T k empty
-  buckets-are hashes k h =
-      let p : word T-buf (o + 8 * k) ≡ getD T k empty .hash = ap (λ (l : List ℕ). word l (o + 8 * k)) is ∙ seen-hash hashes k h in
-      let q : word T-buf (o + 8 * k + 4) ≡ getD T k empty .at = ap (λ (l : List ℕ). word l (o + 8 * k + 4)) is ∙ seen k h in
-      λ i. record { hash = p i; at = q i }
+  pub buckets-are : (k : ℕ) → k < n → bucketAt T-buf o k ≡ getD T k empty
+  buckets-are k h =
+      let there = stored-at buf (cat bucketBytes T) o (omega (arith, size)) in
+      ap (λ (l : List ℕ). bucketAt l o k) is
+      ∙ bucket-read o k (getD T k empty) (at-part bucketBytes 8 length-bucketBytes o T k empty there (rw long h)) (small k)
 
   pub area-step : (h at : ℕ) (buf′ : List ℕ) → buf′ ≡ inserted T-buf o n h at
       → buf′ ≡ sets buf o (cat bucketBytes (insert n T (record { hash = h; at = at })))
   unfolding inserted insert bucketBytes
   area-step h at buf′ e =
-      let B = sets buf o (cat bucketBytes T) in
       let s = start h n in
       let below : s < n = mod-lt (h / 256) some in
       let j = firstEmpty (atOf T) (probeSequence n n s) in
       let jn : j < n = firstEmpty-below (atOf T) n n s below in
       let b = pairOf h at in
+      let seen : (k : ℕ) → k < n → offsetAt T-buf o k ≡ atOf T k = λ k l. ap (λ (x : Bucket). x .at) (buckets-are k l) in
       e
-      ∙ ap (λ (l : List ℕ). sets l (o + 8 * firstEmpty (λ (k : ℕ). word l (o + 8 * k + 4)) (probeSequence n n s)) (bucketBytes b)) is
-      ∙ ap (λ (k : ℕ). sets B (o + 8 * k) (bucketBytes b)) (firstEmpty-ext (λ (k : ℕ). word B (o + 8 * k + 4)) (atOf T) n seen n s below)
+      ∙ ap (λ (k : ℕ). sets T-buf (o + 8 * k) (bucketBytes b)) (firstEmpty-ext (offsetAt T-buf o) (atOf T) n seen n s below)
+      ∙ ap (λ (l : List ℕ). sets l (o + 8 * j) (bucketBytes b)) is
       ∙ sets-within buf (cat bucketBytes T) (bucketBytes b) o (8 * j) (o + 8 * j) refl (omega (arith, size, length-bucketBytes b)) (omega (arith, size))
       ∙ ap (sets buf o) (sets-part bucketBytes 8 length-bucketBytes T j b (rw long jn))
 
 -- ---- a table from its pairs
-
-abbrev pub Words : Bucket → Type 0
-Words b = (b .hash < 2 ^ 32) × (b .at < 2 ^ 32)
 
 -- i of the pairs are in the table of c entries at o
 pub record Filled (buf₀ pairs : List ℕ) (o c i : ℕ) (buf : List ℕ) : Type 0 where
@@ -255,7 +235,7 @@ module _ {buf₀ pairs : List ℕ} {o c i : ℕ} {buf : List ℕ} (f : Filled bu
           few = omega arith;
           long = sized ∙ f .long;
           is =
-              area-step buf₀ buf T o n (length-filled n P) (omega arith) (omega arith) (λ k. words k .1) (f .is) h at buf′ (done .stored)
+              area-step buf₀ buf T o n (length-filled n P) (omega arith) (omega arith) words (f .is) h at buf′ (done .stored)
               ∙ ap (λ (r : List Bucket). sets buf₀ o (cat bucketBytes r)) (sym (filled-more n P b) ∙ ap (filled n) more);
           small = rw (← more) (all-append Words P (b ∷ []) (f .small) ((done .hash-word, done .offset-word), tt));
         }
@@ -267,7 +247,7 @@ module _ {buf₀ pairs : List ℕ} {o c i : ℕ} {buf : List ℕ} (f : Filled bu
         let front : take end buf ≡ take end buf₀ = ap (take end) (f .is) ∙ take-sets (cat bucketBytes T) buf₀ end o behind in
         let fulls : All (λ (q : Bucket). q .at ≡ 0 → ⊥) P = all-before (λ (q : Bucket). q .at ≡ 0 → ⊥) P (b ∷ []) (rw (← more) at full) in
         let table : TableIs n (bucketAt buf o) P =
-        record { each = buckets-are buf₀ buf T o n (length-filled n P) (omega arith) (omega arith) (λ k. words k .1) (f .is) (λ k. words k .0) } in
+        record { each = buckets-are buf₀ buf T o n (length-filled n P) (omega arith) (omega arith) words (f .is) } in
         let other : All (λ (x : Bucket). x .hash ≡ h → sameNames (take end buf) at (x .at) ≡ false) P =
         none-equal table (omega arith) h (sameNames (take end buf) at) (omega (arith, length-pairs pairs i)) fulls (done .unmet z) in
         subst (λ (bs : List Bucket). Pairwise (OtherNames (take end buf₀)) bs) more

@@ -26,8 +26,9 @@ use Rattle.serialize.proofs.Choices.{cond-holds}
 use Rattle.serialize.proofs.HeadRows.{Counts}
 use Rattle.serialize.proofs.PartialImage.{upToEntries, length-upToEntries}
 use Rattle.serialize.proofs.InsertStep.{offsets, store-in}
-use Rattle.serialize.proofs.TableAreas.{Words, areaWith, pairsOf, length-areas, area-at, area-set, length-areaWith, areas-none, pairs-read}
+use Rattle.serialize.proofs.TableAreas.{areaWith, pairsOf, length-areas, area-at, area-set, length-areaWith, areas-none, pairs-read}
 use Rattle.serialize.proofs.Partitioned.{Places, halfway, places-begin, half-walked}
+use Rattle.serialize.proofs.EntryAdded.{Words}
 
 -- the first t tables are filled, the others hold their pairs
 unfoldable pub filling : List Placed → List ℕ → ℕ → ℕ → List ℕ
@@ -107,14 +108,10 @@ module _ (mode : Mode) (es : List Entry) (X tail : List ℕ) (long : length X �
         all-image Words bucketOf (λ q h. (hashOf-below (q .entry .name), omega arith)) (ofTable t (placedIn es))
         (all-filter (λ (q : Placed). q .at ≤ entriesEnd es) (inTable t) (placedIn es) (offsets headSize (entriesEnd es) es (omega arith)))
 
-    pairs-read-there : pairsStored B o (count t ps) ≡ bs
-    unfolding bs
-    pairs-read-there = pairs-read o bs pairs-there words (count t ps) (sym (length-map (ofTable t ps) bucketOf))
-
     pub pairs-are : pairsStored (filledTo mode es X t tail) (entriesEnd es + 16 * entriesBefore t (placedIn es)) (count t (placedIn es))
         ≡ map bucketOf (ofTable t (placedIn es))
     unfolding B o ps bs
-    pairs-are = pairs-read-there
+    pairs-are = pairs-read o bs pairs-there words (count t ps) (sym (length-map (ofTable t ps) bucketOf))
 
     later : (k : ℕ) → (k ≡ t → ⊥) → filling ps X t k ≡ filling ps X (suc t) k
     unfolding filling
@@ -157,7 +154,7 @@ module _ (mode : Mode) (es : List Entry) (X tail : List ℕ) (long : length X �
         let most = before-most (placedIn es) t below in
         let yes : leb (o + 16 * c) (length B) ≡ true = le-leb (o + 16 * c) (length B) (omega (arith, length-placed headSize es)) in
         ap (λ (b : Bool). cond b (sets B o (cat bucketBytes (filled (2 * c) (pairsStored B o c)))) B) yes
-        ∙ ap (λ (l : List Bucket). sets B o (cat bucketBytes (filled (2 * c) l))) pairs-read-there
+        ∙ ap (λ (l : List Bucket). sets B o (cat bucketBytes (filled (2 * c) l))) pairs-are
         ∙ ap (λ (l : List ℕ). sets l o v) (append-assoc (U ++ R) L tail)
         ∙ store-in U R (L ++ tail) v o j (omega (arith, length-upToEntries mode es))
         (omega (arith, tables-long t, length-tableBytes (placedIn es) t, length-placed headSize es))

@@ -109,8 +109,8 @@ fn insert_beside(buf: &mut [u8], end: usize, o: usize, n: usize, h: u32, at: u32
     found.met
 }
 
-// The first empty bucket of the search for hash h among the n buckets at o, if no bucket before it has this hash; n
-// otherwise.
+// The first empty bucket of the search for hash h among the n buckets at o, if no bucket before it has this hash; n if
+// one has it, and n + 1 if none is empty.
 fn first_without_equal(buf: &[u8], o: usize, n: usize, h: u32) -> usize
     requires { ⌜ ProbePre (now buf) 0 o n ⌝ }
     ensures { λ r. ⌜ ((end at : ℕ) → r < n → Probed (now (buf .entry)) end o n h at r false) ⌝ }
@@ -128,12 +128,12 @@ fn first_without_equal(buf: &[u8], o: usize, n: usize, h: u32) -> usize
         k = next(k, n);
         left -= 1;
     }
-    n
+    n + 1
 }
 
 // A pair stored in the first empty bucket of its search among the n buckets at o. Gives whether an entry of equal name
 // was met. Names are compared elsewhere, where another pair has its hash, so that the search here stays small: 5 % of a
-// list in one call at 4,096 names.
+// list in one call at 4,096 names. Two calls keep them elsewhere: the only one would be made a part of this function.
 pub(super) fn insert_pair(buf: &mut [u8], end: usize, o: usize, n: usize, h: u32, at: u32) -> bool
     requires { ⌜ ProbePre (now buf) end o n ⌝ }
     ensures { λ r. ⌜ PairInserted (now (buf .entry)) end o n h at (now (buf .exit)) r ⌝ }
@@ -142,6 +142,9 @@ pub(super) fn insert_pair(buf: &mut [u8], end: usize, o: usize, n: usize, h: u32
     if k < n {
         store_pair(&mut *buf, o + 8 * k, h, at);
         return false;
+    }
+    if k == n {
+        return insert_beside(&mut *buf, end, o, n, h, at);
     }
     insert_beside(&mut *buf, end, o, n, h, at)
 }

@@ -63,11 +63,6 @@ slice-aggregate-any-zero c =
     let last = placed (length (a .bytes .now)) (a .ends .now) (length (a .ends .now) - 1) (s .pre .list .packed) (omega (arith, s .pre .capacity .some)) in
     sym (length-take-le _ (a .bytes .now) (last .inside))
 
-returns : tie.Need-returns
-returns c =
-    let s = start (c .before) in
-    record { count-fits = few s; built = λ some. absurd (omega arith); behind = refl; rest = λ z. refl }
-
 hash-list-requires : tie.Need-hash-list-requires
 hash-list-requires c κs =
     let s = start (c .before .before .before) in
@@ -135,7 +130,7 @@ build-direct-spec =
     (λ c. search needs)
     slice-aggregate-any-zero
     (λ c κs. search needs)
-    returns
+    (λ c. let s = start (c .before) in record { count-fits = few s; built = λ some. absurd (omega arith); behind = refl; rest = λ z. refl })
     hash-list-requires
     (λ c κs. search needs)
     write-list-requires

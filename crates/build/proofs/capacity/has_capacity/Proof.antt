@@ -12,11 +12,6 @@ use Rattle.build.proofs.capacity.has_capacity.Tie as tie
 abbrev start : tie.After-for-list → tie.Start
 start c = c .before .before .before .before .before .before
 
-slice-aggregate-for-list : tie.Need-slice-aggregate-for-list
-slice-aggregate-for-list c =
-    let s = c .before .before .before .before .before in
-    sym (length-take-le (length (s .args .ends .now)) (s .args .ids .now) (s .pre))
-
 returns-4 : tie.Need-returns-4
 returns-4 c =
     let f = c .before .before .before .before in
@@ -34,7 +29,7 @@ has-capacity-spec =
     (λ c. omega (arith, c .if1 .left))
     (λ c. search needs)
     (λ c. omega (arith, c .before .if1 .left))
-    slice-aggregate-for-list
+    (λ c. let s = c .before .before .before .before .before in sym (length-take-le (length (s .args .ends .now)) (s .args .ids .now) (s .pre)))
     (λ c κs. search needs)
     (λ c. λ e. absurd (false-not-true e))
     (λ c. λ e. absurd (false-not-true e))

@@ -29,11 +29,6 @@ loop-again c =
       whole = any-zero-step _ (l .i) (l .any) _ (c .before .loop-test .taken) (l .inv .whole);
     }
 
-returns : tie.Need-returns Inv-loop μ-loop
-returns c =
-    let l = c .before .loop in
-    any-zero-end _ (l .i) (l .any) _ (omega (arith, c .loop-test .left)) (l .inv .whole)
-
 pub any-zero-spec : {M : Type 1} → statement M
 any-zero-spec =
     tie.close
@@ -45,4 +40,4 @@ any-zero-spec =
     (λ c. search needs)
     (λ c. search needs)
     loop-again
-    returns)
+    (λ c. let l = c .before .loop in any-zero-end _ (l .i) (l .any) _ (omega (arith, c .loop-test .left)) (l .inv .whole)))

@@ -53,16 +53,6 @@ loop-holds c =
       puts = puts-start (s .pre .begun) (s .pre .list .head-fits) (s .pre .cleared);
     }
 
-mul-put-name : tie.Need-mul-put-name Inv-loop μ-loop
-mul-put-name c =
-    let e = c .before .before .before .before in
-    omega (arith, e .loop-test .taken, start e .pre .list .ids-long, start e .good)
-
-shared-slice-read-put-name : tie.Need-shared-slice-read-put-name Inv-loop μ-loop
-shared-slice-read-put-name c =
-    let e = c .before .before .before .before .before in
-    omega (arith, e .loop-test .taken, start e .pre .list .ids-long)
-
 put-name-requires : tie.Need-put-name-requires Inv-loop μ-loop
 put-name-requires c κs =
     let e = c .before .before .before .before .before in
@@ -71,21 +61,6 @@ put-name-requires c κs =
       index = v .puts .index;
       spare = λ h. omega (arith, v .puts .few, e .loop-test .taken, start e .pre .enough (omega (arith, h, v .slots-length)), v .slots-length);
     }
-
-mul-refusals : tie.Need-mul-refusals Inv-loop μ-loop
-mul-refusals c =
-    let e = entered c in
-    omega (arith, e .loop-test .taken, e .before .loop .inv .puts .size, start e .pre .list .refusals-long, start e .good)
-
-slice-write-refusals : tie.Need-slice-write-refusals Inv-loop μ-loop
-slice-write-refusals c =
-    let e = entered c in
-    omega (arith, e .loop-test .taken, e .before .loop .inv .puts .size, start e .pre .list .refusals-long)
-
-add-i : tie.Need-add-i Inv-loop μ-loop
-add-i c =
-    let e = entered c in
-    omega (arith, e .loop-test .taken, start e .good)
 
 loop-again : tie.Need-loop-again Inv-loop μ-loop
 loop-again c =
@@ -127,12 +102,12 @@ put-list-spec =
     μ-loop
     loop-holds
     (λ c κs. record { inside = c .loop-test .taken; ends-rise = start c .pre .list .packed })
-    mul-put-name
-    shared-slice-read-put-name
+    (λ c. let e = c .before .before .before .before in omega (arith, e .loop-test .taken, start e .pre .list .ids-long, start e .good))
+    (λ c. let e = c .before .before .before .before .before in omega (arith, e .loop-test .taken, start e .pre .list .ids-long))
     put-name-requires
-    mul-refusals
-    slice-write-refusals
-    add-i
+    (λ c. let e = entered c in omega (arith, e .loop-test .taken, e .before .loop .inv .puts .size, start e .pre .list .refusals-long, start e .good))
+    (λ c. let e = entered c in omega (arith, e .loop-test .taken, e .before .loop .inv .puts .size, start e .pre .list .refusals-long))
+    (λ c. let e = entered c in omega (arith, e .loop-test .taken, start e .good))
     (λ c. omega (arith, entered c .loop-test .taken))
     loop-again
     (λ c. search needs)

@@ -69,4 +69,5 @@ first-without-equal-spec =
     (λ c. search needs)
     (λ c. search needs)
     loop-again
+    (λ c. search needs)
     (λ c end at below. absurd (omega arith)))

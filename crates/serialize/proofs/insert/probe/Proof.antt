@@ -51,11 +51,6 @@ returns c =
       unmet = λ z. none-matches (l .inv) (test .loop-test .taken) empty;
     }
 
-slice-aggregate-same-names : tie.Need-slice-aggregate-same-names Inv-loop μ-loop
-slice-aggregate-same-names c =
-    let at-loop = c .before .before .before .before .before .before in
-    simp length-take (omega (arith, start at-loop .pre .front))
-
 returns-2 : tie.Need-returns-2 Inv-loop μ-loop
 returns-2 c =
     let begun = c .before .before .before .before .before .before .before .before .before .before in
@@ -102,7 +97,7 @@ probe-spec =
     (λ c. omega (arith, inside (read c)))
     (λ c. omega (arith, inside (read c)))
     (λ c κs. omega (arith, inside (read c)))
-    slice-aggregate-same-names
+    (λ c. let at-loop = c .before .before .before .before .before .before in simp length-take (omega (arith, start at-loop .pre .front)))
     (λ c κs. search needs)
     (λ c κs. search needs)
     returns-2
