@@ -339,13 +339,10 @@ module _ (mode : Mode) (es qs rest : List Entry) (e : Entry) (tail : List ℕ) (
       let L = backWords rs (backSizeOf mode es) in
       let F = U ++ tablesWith ps (rs ++ p ∷ []) in
       let n : length F ≡ entriesEnd es + 16 * length es =
-      length-append U (tablesWith ps (rs ++ p ∷ [])) ∙ sum (length U) (length (tablesWith ps (rs ++ p ∷ []))) (length-upToEntries mode es)
-      (length-tablesWith ps (rs ++ p ∷ [])) in
+      let T = tablesWith ps (rs ++ p ∷ []) in
+      omega (arith, length-append U T, length-upToEntries mode es, length-tablesWith ps (rs ++ p ∷ []), length-placed headSize es) in
       ap (λ (name : List ℕ). backStored mode (insertedByRow B (hashOf name) at) (backOffset mode es) (word B at) at) name-found
       ∙ ap (λ (l : List ℕ). backStored mode l (backOffset mode es) (word B at) at) with-pair
       ∙ ap (λ (i : ℕ). backStored mode (F ++ L ++ tail) (backOffset mode es) i at) (id-word e here id-small)
       ∙ linked mode es rs p F tail n id-below
       ∙ ap (λ (l : List Placed). U ++ tablesWith ps l ++ backWords l (backSizeOf mode es) ++ tail) (sym (placed-more qs e))
-    where
-      sum : (a b : ℕ) → a ≡ entriesEnd es → b ≡ 16 * length (placedIn es) → a + b ≡ entriesEnd es + 16 * length es
-      sum a b h k = omega (arith, length-placed headSize es)

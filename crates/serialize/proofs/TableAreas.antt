@@ -25,12 +25,8 @@ module _ (ps : List Placed) (f : ℕ → List ℕ) (sized : (t : ℕ) → t < 25
   unfolding cat range entriesBefore
   length-areas-to zero h = refl
   length-areas-to (suc t) h =
-      ap length (run-more f t)
-      ∙ length-append (cat f (range 0 t)) (f t)
-      ∙ sum (length (cat f (range 0 t))) (length (f t)) (length-areas-to t (omega arith)) (sized t (omega arith))
-    where
-      sum : (a b : ℕ) → a ≡ 16 * entriesBefore t ps → b ≡ 16 * count t ps → a + b ≡ 16 * (entriesBefore t ps + count t ps)
-      sum a b p q = omega arith
+      let sum = length-append (cat f (range 0 t)) (f t) in
+      omega (arith, ap length (run-more f t) ∙ sum, length-areas-to t (omega arith), sized t (omega arith))
 
   pub length-areas : length (cat f (range 0 256)) ≡ 16 * length ps
   length-areas = length-areas-to 256 (omega arith) ∙ ap (λ (n : ℕ). 16 * n) (before-all ps)
@@ -98,12 +94,8 @@ module _ (ps : List Placed) (X : List ℕ) (long : length X ≡ 16 * length ps) 
   pub length-areaWith : (t : ℕ) → t < 256 → count t rs ≤ count t ps → length (areaWith ps X rs t) ≡ 16 * count t ps
   unfolding areaWith
   length-areaWith t h k =
-      length-append (pairsOf rs t) (drop (8 * count t rs) (tableArea ps X t))
-      ∙ sum (length (pairsOf rs t)) (length (drop (8 * count t rs) (tableArea ps X t))) (length-pairsOf rs t)
-      (length-drop (8 * count t rs) (tableArea ps X t)) (length-area t h)
-    where
-      sum : (a b : ℕ) {n : ℕ} → a ≡ 8 * count t rs → b ≡ n - 8 * count t rs → n ≡ 16 * count t ps → a + b ≡ 16 * count t ps
-      sum a b p q r = omega arith
+      let D = drop (8 * count t rs) (tableArea ps X t) in
+      omega (arith, length-append (pairsOf rs t) D, length-pairsOf rs t, length-drop (8 * count t rs) (tableArea ps X t), length-area t h)
 
   module _ (p : Placed) where
     pub count-own : count (ownTable p) (rs ++ p ∷ []) ≡ count (ownTable p) rs + 1

@@ -46,10 +46,8 @@ pairs-suc copy c = refl
 length-pairs : (copy : List ℕ) (c : ℕ) → length (pairsIn copy c) ≡ c
 unfolding pairsIn
 length-pairs copy zero = refl
-length-pairs copy (suc c) = length-append (pairsIn copy c) _ ∙ one (length (pairsIn copy c)) c (length-pairs copy c)
-  where
-    one : (a b : ℕ) → a ≡ b → a + 1 ≡ suc b
-    one a b e = omega arith
+length-pairs copy (suc c) =
+    omega (arith, length-append (pairsIn copy c) (pairOf (getD copy (2 * c) 0) (getD copy (2 * c + 1) 0) ∷ []), length-pairs copy c)
 
 -- the pairs are in a copy of their words
 pub pairs-copied : {copy buf : List ℕ} {o c : ℕ} → PairsCopied copy buf o c → (k : ℕ) → k ≤ c → pairsIn copy k ≡ pairsStored buf o k
@@ -155,10 +153,7 @@ module _ (base : List ℕ) (o c : ℕ) (inside : o + 16 * c ≤ length base) (bu
 
   length-zeros : length zeros ≡ 16 * c
   unfolding zeros
-  length-zeros = length-replicate (o + 16 * c - o) 0 ∙ same o (16 * c)
-    where
-      same : (a b : ℕ) → a + b - a ≡ b
-      same a b = omega arith
+  length-zeros = omega (arith, length-replicate {A = ℕ} (o + 16 * c - o) 0)
 
   over : (vs : List ℕ) → length vs ≡ 16 * c → sets buf₀ o vs ≡ sets base o vs
   unfolding zeros

@@ -165,11 +165,8 @@ module _ (mode : Mode) (end entries back : ℕ) (counts buf : List ℕ) (bytes :
 
   area-long : length X ≡ 16 * length (placedIn es)
   area-long =
-      length-between buf end (end + 16 * entries) (omega arith) (omega (arith, asked .fits-buffer))
-      ∙ same end entries (numbers .number ∙ sym (length-placed headSize es))
-    where
-      same : (a n : ℕ) {m : ℕ} → n ≡ m → a + 16 * n - a ≡ 16 * m
-      same a n e = omega arith
+      let sum = length-between buf end (end + 16 * entries) (omega arith) (omega (arith, asked .fits-buffer)) in
+      omega (arith, sum, numbers .number, length-placed headSize es)
 
   begun : begunImage mode end entries back counts buf ≡ upToEntries mode es ++ X ++ backWords [] (backSizeOf mode es) ++ tail
   unfolding upToEntries es
