@@ -75,14 +75,10 @@ module _ (counts : List ℕ) (end : ℕ) (ps : List Placed) (tallies : Counts co
   unfolding entriesBefore
   places-begin = rw whole (record { many = length-begin 256 0 end; each = each })
     where
-      R : List ℕ
-      R = tableOffsetsFrom counts end 0 256
-
-      zeros : List ℕ
-      zeros = replicate 256 0
-
       whole : sets (replicate 256 0) 0 (tableOffsetsFrom counts end 0 256) ≡ tableOffsetsFrom counts end 0 256
       whole =
+          let R = tableOffsetsFrom counts end 0 256 in
+          let zeros : List ℕ = replicate 256 0 in
           ap (λ (l : List ℕ). sets l 0 R) (sym (append-nil zeros))
           ∙ sets-whole R zeros [] (length-begin 256 0 end ∙ sym (length-replicate {A = ℕ} 256 0))
           ∙ append-nil R
