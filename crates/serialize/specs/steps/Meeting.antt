@@ -1,5 +1,6 @@
 -- Whether two entries of equal name meet while the tables are filled: what each step leaves, as the code goes, and what
--- holds if it has met none. No rule of 01 stands here.
+-- holds if it has met none. With `stop` a step ends where an entry meets one of equal name, and then nothing is said of
+-- what it leaves. No rule of 01 stands here.
 use Prim.Native.Nat.{ℕ, zero, suc, _+_, _*_, _-_, _<_, _≤_}
 use mathlib.Core.Path.{_≡_}
 use mathlib.Core.Bool.{Bool, true, false, _&&_}
@@ -96,7 +97,6 @@ UnmetFrom mode back-offset end (suc m) at buf =
     RowUnmet buf end (hashAt buf at n) at
     × UnmetFrom mode back-offset end m (at + (8 + n)) (entryInserted mode back-offset buf at n)
 
--- with `stop` only until one meets another, and then it is not said what is left
 pub record EntriesInserted (stop : Bool) (mode : Mode) (back-offset end entries : ℕ) (buf after : List ℕ) (met : Bool)
     : Type 0 where
   pub leaves : (stop && met) ≡ false → after ≡ insertedFrom mode back-offset end entries headSize buf
