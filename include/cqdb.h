@@ -446,7 +446,7 @@ static inline cqdb_close_answer cqdb_close(const cqdb_writer *w, uint8_t *buf, s
 }
 
 /* Single puts in constant time, also with repeats off: by an index, in words that the caller lends. A put by the index compares
-   its name with the entries of an equal hash alone. The index is no part of the image: both ways of putting make the same bytes.
+   its name only with entries whose hash is equal. The index is no part of the image: both ways of putting make the same bytes.
 
    An index is right for a writer and its buffer when cqdb_index made it, in words of this number, and since then the writer, the
    buffer's bytes from 2,072 to w->end and the words were changed by cqdb_put_indexed, cqdb_close and cqdb_grown alone; refused

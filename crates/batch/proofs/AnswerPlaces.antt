@@ -9,7 +9,7 @@ use lib.Seq.{getD-set-same, getD-set-other, getD-take, getD-drop, ext-getD}
 use Rattle.image.specs.Bytes.{cat}
 use Rattle.reader.specs.Lookup.{Lookup, found, nothing, lookupBy, lookup}
 use Rattle.reader.proofs.Searches.{lookup-own}
-use Rattle.packed.proofs.NameEnds.{length-names}
+use Rattle.image.proofs.NameEnds.{length-names}
 use Rattle.jhash.proofs.Outcomes.{hash-or-zero-short}
 use Rattle.batch.specs.RoundNames.{names, nth}
 use Rattle.batch.specs.Round.{answerWords}

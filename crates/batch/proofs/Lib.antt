@@ -10,4 +10,4 @@ pub mod RoundAnswers
 pub mod PlaceWords
 pub mod Different
 pub mod Theorem
-pub mod Rows
+pub mod ExampleRows

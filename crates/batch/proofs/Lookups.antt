@@ -6,12 +6,12 @@ use mathlib.Core.Bool.{false}
 use mathlib.Core.List.{List}
 use borrow.Author.Tests.{le-ltb, lt-leb}
 use lib.ListN.{length, getD, drop, length-take, length-drop}
-use Rattle.packed.proofs.NameEnds.{nth-name}
+use Rattle.image.proofs.NameEnds.{nth-name}
 use Rattle.reader.specs.Lookup.{nothing, Probe, pass, probeEntry, decide, lookupHash, lookupBy}
 use Rattle.reader.specs.steps.Resume.{searchFrom, lookupFrom}
 use Rattle.reader.proofs.Searches.{lookup-with, from-by}
 use Rattle.batch.specs.RoundNames.{names, nth}
-use Rattle.packed.specs.Names.{beginOf}
+use Rattle.image.specs.PackedNames.{beginOf}
 use Rattle.batch.specs.steps.Probing.{SearchDecided}
 
 -- a name is no longer than the bytes

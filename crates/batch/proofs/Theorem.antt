@@ -20,7 +20,7 @@ use Rattle.batch.specs.RoundNames.{namesFrom, names, invalidEnds, packed
 use Rattle.batch.specs.Round.{answerWords, roundWords, roundBuckets, roundOutcome, afterRound}
 use Rattle.batch.specs.NameRound.{placeWords, nameWords, nameRefusal, afterNames}
 use Rattle.batch.specs.theorems.Theorem.{placeAt, RoundAccepted, RoundHolds}
-use Rattle.packed.proofs.NameEnds.{length-names}
+use Rattle.image.proofs.NameEnds.{length-names}
 use Rattle.batch.proofs.AnswerPlaces.{length-words}
 use Rattle.batch.proofs.RoundAnswers.{left}
 use Rattle.batch.proofs.PlaceWords.{length-place, names-left}

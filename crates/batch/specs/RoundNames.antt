@@ -4,8 +4,8 @@ use Prim.Native.Nat.{ℕ}
 use mathlib.Core.Bool.{Bool, true, false, _||_}
 use mathlib.Core.List.{List, [], _∷_, _++_}
 use Rattle.image.specs.Bytes.{same}
-unfoldable pub use Rattle.packed.specs.Names.{namesFrom, names, invalidEnds, packedBytes, endsFrom}
-pub use Rattle.packed.specs.Names.{nth}
+unfoldable pub use Rattle.image.specs.PackedNames.{namesFrom, names, invalidEnds, packedBytes, endsFrom}
+pub use Rattle.image.specs.PackedNames.{nth}
 
 -- is a name among some names?
 unfoldable pub among : List ℕ → List (List ℕ) → Bool

@@ -12,7 +12,7 @@ use super::deduplicate::if_zero;
 use super::probing::pass;
 use crate::MOST_NAMES;
 use image::HEAD_SIZE;
-use packed::nth_name;
+use image::packed::nth_name;
 use reader::Probe;
 use reader::ToId;
 use reader::lookup::probe_entry;

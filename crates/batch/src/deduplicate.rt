@@ -8,10 +8,10 @@ ghost use Rattle.batch.specs.RoundNames.{names, nth};
 ghost use Rattle.batch.specs.steps.Duplicates.{Hashes, HashNamesPre, EqualNamesPre, IfZero};
 ghost use Rattle.batch.specs.steps.Duplicates.{FindOrInsertPre, FoundOrInserted, Deduplicated, DeduplicatePre};
 use image::equality::same;
+use image::packed::nth_name;
 use image::probe::next;
 use image::probe::start;
 use jhash::hash_or_zero;
-use packed::nth_name;
 
 // Eight for each name of a whole round, so that few searches meet another name.
 const SLOTS: usize = 4096;

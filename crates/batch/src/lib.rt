@@ -10,9 +10,9 @@ use answering::find_all;
 use answering::sum_buckets;
 use deduplicate::deduplicate;
 use deduplicate::hash_names;
+use image::packed::invalid_ends;
 use jhash::refusals::ANSWERS_TOO_FEW;
 use jhash::refusals::ROUND_UNFIT;
-use packed::invalid_ends;
 
 mod deduplicate; // deduplicate.rt: equal names, and the unique ones
 mod probing; // probing.rt: a pass over the searches that are still open

@@ -14,8 +14,8 @@ use Rattle.image.specs.Image.{Entry, headSize, entriesEnd, backSize, backIn, ba
 use Rattle.image.specs.Image.{hasName, containsName}
 use Rattle.image.specs.Zero.{hasZero}
 use Rattle.image.proofs.Sizes.{entriesSize-append}
-use Rattle.packed.specs.Names.{names, invalidEnds, nth, beginOf}
-use Rattle.packed.proofs.NameEnds.{length-names}
+use Rattle.image.specs.PackedNames.{names, invalidEnds, nth, beginOf}
+use Rattle.image.proofs.NameEnds.{length-names}
 use Rattle.writer.specs.declared.Repeats.{Repeats}
 use Rattle.writer.specs.declared.Repeats.the-variants.{Off, On}
 use Rattle.writer.specs.State.{refusesRepeats, tooLarge}

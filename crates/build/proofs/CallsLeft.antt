@@ -10,7 +10,7 @@ use lib.Seq.{drop-cons, drop-drop}
 use Rattle.image.specs.declared.Mode.{Mode}
 use Rattle.image.specs.Image.{Entry, entrySize, entriesSize, backSize, imageSize}
 use Rattle.image.proofs.Sizes.{entriesSize-append}
-use Rattle.packed.specs.Names.{nth}
+use Rattle.image.specs.PackedNames.{nth}
 use Rattle.writer.specs.declared.Repeats.{Repeats}
 use Rattle.writer.specs.State.{State}
 use Rattle.writer.specs.Put.{putRefusal, writerAfterPut, writerAfterEntry, appended, afterPut, entryOf}

@@ -9,5 +9,5 @@ pub mod SinglePuts
 pub mod Whole
 pub mod ListWhole
 pub mod Theorem
-pub mod Rows
+pub mod ExampleRows
 pub mod Needed

@@ -17,8 +17,8 @@ use Rattle.image.proofs.Sizes.{length-image}
 use Rattle.image.specs.Zero.{hasZero}
 use Rattle.image.proofs.Bools.{or-false-first, or-false-second}
 use Rattle.image.proofs.Between.{between-same}
-use Rattle.packed.specs.Names.{names, nth, invalidEnds, beginOf}
-use Rattle.packed.proofs.NameEnds.{length-names, nth-name, begin-next, begins-rise}
+use Rattle.image.specs.PackedNames.{names, nth, invalidEnds, beginOf}
+use Rattle.image.proofs.NameEnds.{length-names, nth-name, begin-next, begins-rise}
 use Rattle.writer.specs.declared.CQDBWriter.{CQDBWriter}
 use Rattle.serialize.specs.steps.Meeting.{Pairwise, Distinct}
 use Rattle.writer.specs.declared.Repeats.{Repeats}

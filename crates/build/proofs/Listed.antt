@@ -5,7 +5,7 @@ use mathlib.Core.Path.{_≡_, refl, ap}
 use mathlib.Core.List.{List, [], _∷_, map}
 use lib.ListN.{length, getD, take}
 use Rattle.image.specs.Image.{Entry, backSize}
-use Rattle.packed.specs.Names.{nth}
+use Rattle.image.specs.PackedNames.{nth}
 use Rattle.writer.specs.Put.{entryOf}
 use Rattle.lists.specs.Calls.{puts}
 use Rattle.build.specs.Build.{callsOf}

@@ -14,8 +14,8 @@ use Rattle.image.specs.declared.Mode.the-variants.{Twoway, Oneway}
 use Rattle.image.specs.Image.{headSize, backSize, backIn}
 use Rattle.image.proofs.Between.{length-between}
 use Rattle.image.proofs.Bools.{or-false-first, or-false-second}
-use Rattle.packed.specs.Names.{namesFrom, names, invalidEnds, packedBytes, beginOf}
-use Rattle.packed.proofs.NameEnds.{begin-later}
+use Rattle.image.specs.PackedNames.{namesFrom, names, invalidEnds, packedBytes, beginOf}
+use Rattle.image.proofs.NameEnds.{begin-later}
 use Rattle.writer.specs.declared.Repeats.{Repeats}
 use Rattle.lists.specs.Calls.{putsSize, sizeOf, puts, WordIds}
 use Rattle.lists.specs.Demand3.{answersOf}
@@ -129,7 +129,7 @@ none-refused mode repeats buffer bytes ends ids good word within small =
     let most = size-most mode bytes ends ids good in
     capacity .none-refused mode repeats buffer (listed bytes ends ids) word (omega arith) (omega arith)
 
--- ---- names that lie joined with nothing behind them
+-- ---- packed names with nothing behind them
 
 puts-joined : (xs : List (List ℕ)) (ids : List ℕ) → length xs ≡ length ids → putsSize (puts (callsOf xs ids)) ≡ length (packedBytes xs) + 25 * length ids
 unfolding callsOf puts putsSize packedBytes

@@ -10,8 +10,8 @@ use lib.Seq.{take-all, take-suc}
 use Rattle.image.specs.Image.{Entry, headSize, entriesSize}
 use Rattle.image.proofs.Between.{length-between}
 use Rattle.image.proofs.Sizes.{entriesSize-append}
-use Rattle.packed.specs.Names.{names, invalidEnds, nth, beginOf}
-use Rattle.packed.proofs.NameEnds.{length-names, nth-name, placed, begin-next}
+use Rattle.image.specs.PackedNames.{names, invalidEnds, nth, beginOf}
+use Rattle.image.proofs.NameEnds.{length-names, nth-name, placed, begin-next}
 
 abbrev entryOffset : List ℕ → ℕ → ℕ
 entryOffset ends i = headSize + beginOf ends i + 9 * i

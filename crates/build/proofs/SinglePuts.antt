@@ -11,7 +11,7 @@ use lib.Seq.{take-suc-set, drop-set-lt}
 use borrow.Author.Tests.{lt-leb}
 use Rattle.image.specs.declared.Mode.{Mode}
 use Rattle.image.specs.Image.{Entry, headSize}
-use Rattle.packed.specs.Names.{nth}
+use Rattle.image.specs.PackedNames.{nth}
 use Rattle.writer.specs.declared.Repeats.{Repeats}
 use Rattle.writer.specs.State.{State, fresh}
 use Rattle.writer.specs.Put.{putRefusal, appended, afterPut, entryOf}

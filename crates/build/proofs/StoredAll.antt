@@ -25,8 +25,8 @@ use Rattle.image.proofs.Lists.{cat-append}
 use Rattle.image.proofs.Parts.{placedIn}
 use Rattle.image.proofs.Sizes.{entriesSize-append, length-entries, length-entryBytes, length-placed, count-nil, length-headWords, length-tableRows}
 use Rattle.image.proofs.Stores.{sets-left, sets-right-at}
-use Rattle.packed.specs.Names.{names, nth}
-use Rattle.packed.proofs.NameEnds.{length-names}
+use Rattle.image.specs.PackedNames.{names, nth}
+use Rattle.image.proofs.NameEnds.{length-names}
 use Rattle.serialize.specs.steps.Partition.{tableOffsetsFrom, partitioned, advanced, EntryPartitioned}
 use Rattle.serialize.proofs.PartialImage.{upToEntries}
 use Rattle.serialize.proofs.HeadRows.{Counts}

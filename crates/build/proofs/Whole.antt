@@ -10,7 +10,7 @@ use lib.ListN.{length, drop}
 use Rattle.jhash.specs.Outcome.{Outcome, value, refusal}
 use Rattle.image.specs.declared.Mode.{Mode}
 use Rattle.image.specs.Image.{headSize}
-use Rattle.packed.specs.Names.{invalidEnds}
+use Rattle.image.specs.PackedNames.{invalidEnds}
 use Rattle.writer.specs.declared.Repeats.{Repeats}
 use Rattle.writer.specs.Close.{closedSize}
 use Rattle.lists.specs.Demand3.{answersOf, afterList, acceptedPuts}

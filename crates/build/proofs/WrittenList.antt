@@ -16,8 +16,8 @@ use Rattle.image.proofs.AllOfList.{All}
 use Rattle.image.proofs.Between.{length-between}
 use Rattle.image.proofs.Parts.{placedIn}
 use Rattle.image.proofs.Sizes.{entriesSize-append, length-placed, length-backWords, backIn-twice}
-use Rattle.packed.specs.Names.{names, nth, invalidEnds, beginOf}
-use Rattle.packed.proofs.NameEnds.{length-names, nth-name, placed, begin-later, begin-next, begins-rise}
+use Rattle.image.specs.PackedNames.{names, nth, invalidEnds, beginOf}
+use Rattle.image.proofs.NameEnds.{length-names, nth-name, placed, begin-later, begin-next, begins-rise}
 use Rattle.serialize.specs.steps.Partition.{tableOffsetsFrom, EntryPartitioned}
 use Rattle.serialize.specs.steps.Written.{begunImage}
 use Rattle.serialize.specs.steps.Meeting.{AllDone}

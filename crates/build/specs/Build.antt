@@ -9,7 +9,7 @@ use lib.Dec.{ltb}
 use Rattle.jhash.specs.Outcome.{Outcome, value, refusal}
 use Rattle.image.specs.declared.Mode.{Mode}
 use Rattle.image.specs.Image.{headSize, imageSize}
-use Rattle.packed.specs.Names.{names, invalidEnds}
+use Rattle.image.specs.PackedNames.{names, invalidEnds}
 use Rattle.writer.specs.declared.Repeats.{Repeats}
 use Rattle.writer.specs.Put.{entryOf}
 use Rattle.writer.specs.Close.{closedSize}

@@ -4,8 +4,8 @@ ghost use mathlib.Core.Path.{_≡_};
 ghost use Rattle.jhash.specs.NameHash.{hashOrZero};
 ghost use Rattle.image.specs.Zero.{hasZero};
 ghost use Rattle.build.specs.steps.Stores.{HashListPre, HashListPost};
+use image::packed::nth_name;
 use jhash::Hashed;
-use packed::nth_name;
 
 // Is one of the bytes zero? The loop reads each of them and ends at none, so the compiler looks at sixteen at once.
 pub(crate) fn any_zero(bytes: &[u8]) -> bool

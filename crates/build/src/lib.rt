@@ -12,11 +12,11 @@ use hashed::hash_list;
 use image::HEAD_SIZE;
 use image::HEAD_SIZE_64;
 use image::Mode;
+use image::packed::invalid_ends;
 use image::scratch::clear_words;
 use jhash::refusals::ANSWERS_TOO_FEW;
 use jhash::refusals::ROUND_UNFIT;
 use jhash::refusals::TOO_SHORT;
-use packed::invalid_ends;
 use singly::index_words;
 use singly::put_list;
 use stored::write_list;
@@ -213,7 +213,7 @@ fn build_list(
     )
 }
 
-// The image of the names that lie joined in `bytes` with these ends, each put with the id at its place; the number of
+// The image of the names packed in `bytes` with these ends, each put with the id at its place; the number of
 // each put's refusal goes to `refusals`. Refused with 14, 15 or 1, and then nothing is written. What `scratch` holds
 // changes only the time, and what it holds afterwards is unspecified; so is what the buffer holds between the end of
 // the image and that of an image of all names.

@@ -3,8 +3,8 @@
 ghost use Rattle.writer.specs.State.{stateWith};
 ghost use Rattle.writer.specs.Put.{entryOf};
 ghost use Rattle.build.specs.steps.Steps.{IndexWords, PutPre, PutPost, PutListPre, PutListPost};
+use image::packed::nth_name;
 use index::put_indexed;
-use packed::nth_name;
 use writer::CQDBWriter;
 use writer::RecordAnswer;
 use writer::Repeats;

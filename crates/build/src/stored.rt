@@ -4,7 +4,7 @@ use super::needs::back_of;
 use image::HEAD_SIZE;
 use image::HEAD_SIZE_64;
 use image::Mode;
-use packed::nth_name;
+use image::packed::nth_name;
 use serialize::partition::partition_entry;
 use serialize::size::back_in;
 use serialize::size::back_offset;

@@ -11,7 +11,7 @@ use Rattle.writer.specs.declared.Repeats.{Repeats}
 use Rattle.build.specs.declared.Made.{Made}
 use Rattle.build.specs.Build.{buildRefusal, building, BufferBuilt, answersAfter}
 use Rattle.build_c.specs.declared.BuildAnswer.{BuildAnswer}
-use Rattle.writer.specs.Numbers.{known, modeOf, repeatsOf}
+use Rattle.writer.specs.Numbers.{validNumbers, modeOf, repeatsOf}
 use Rattle.build_c.specs.Building.{builtAnswer, buildAnswer, BufferLeft, answersBuilt}
 
 -- what `build` promises, by the names of its clauses
@@ -30,7 +30,7 @@ module _ (mode repeats : ℕ) (buffer bytes ends ids places : List ℕ) where
   told = answersAfter (modeOf mode) (repeatsOf repeats) buffer bytes ends ids places
 
   -- a mode or a repeats mode that stands for nothing
-  pub unknown-build : known mode repeats ≡ false
+  pub unknown-build : validNumbers mode repeats ≡ false
       → (builtAnswer (refusal 2) ≡ buildAnswer mode repeats buffer bytes ends ids (length places))
       × BufferLeft mode repeats buffer bytes ends ids (length places) buffer
       × (places ≡ answersBuilt mode repeats buffer bytes ends ids places)
@@ -41,7 +41,7 @@ module _ (mode repeats : ℕ) (buffer bytes ends ids places : List ℕ) where
     sym (ap (λ (b : Bool). cond b told places) e),
   )
 
-  pub known-build : known mode repeats ≡ true → (m : Mode) (r : Repeats) → m ≡ modeOf mode → r ≡ repeatsOf repeats
+  pub known-build : validNumbers mode repeats ≡ true → (m : Mode) (r : Repeats) → m ≡ modeOf mode → r ≡ repeatsOf repeats
       → (out : Outcome Made) (l rs : List ℕ) → out ≡ building m r buffer bytes ends ids (length places)
       → BufferBuilt m r buffer bytes ends ids (length places) l → rs ≡ answersAfter m r buffer bytes ends ids places
       → (builtAnswer out ≡ buildAnswer mode repeats buffer bytes ends ids (length places))

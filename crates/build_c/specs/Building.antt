@@ -9,7 +9,7 @@ use Rattle.jhash.specs.Outcome.{Outcome, value, refusal}
 use Rattle.build.specs.declared.Made.{Made}
 use Rattle.build.specs.Build.{building, BufferBuilt, answersAfter}
 use Rattle.build_c.specs.declared.BuildAnswer.{BuildAnswer}
-use Rattle.writer.specs.Numbers.{known, modeOf, repeatsOf}
+use Rattle.writer.specs.Numbers.{validNumbers, modeOf, repeatsOf}
 use Rattle.jhash.specs.Refusals as refused
 
 -- zeros where refused
@@ -19,16 +19,16 @@ builtAnswer (refusal k) = record { refusal = k; size = 0; accepted = 0 }
 
 unfoldable pub buildAnswer : ℕ → ℕ → List ℕ → List ℕ → List ℕ → List ℕ → ℕ → BuildAnswer
 buildAnswer mode repeats buffer bytes ends ids places =
-    cond (known mode repeats) (builtAnswer (building (modeOf mode) (repeatsOf repeats) buffer bytes ends ids places))
+    cond (validNumbers mode repeats) (builtAnswer (building (modeOf mode) (repeatsOf repeats) buffer bytes ends ids places))
     (builtAnswer (refusal refused.unfit))
 
 -- the buffer afterwards
 pub record BufferLeft (mode repeats : ℕ) (buffer bytes ends ids : List ℕ) (places : ℕ) (bufferThen : List ℕ) : Type 0
   where
-    pub unknown : known mode repeats ≡ false → bufferThen ≡ buffer
-    pub built : known mode repeats ≡ true
+    pub unknown : validNumbers mode repeats ≡ false → bufferThen ≡ buffer
+    pub built : validNumbers mode repeats ≡ true
         → BufferBuilt (modeOf mode) (repeatsOf repeats) buffer bytes ends ids places bufferThen
 
 unfoldable pub answersBuilt : ℕ → ℕ → List ℕ → List ℕ → List ℕ → List ℕ → List ℕ → List ℕ
 answersBuilt mode repeats buffer bytes ends ids places =
-    cond (known mode repeats) (answersAfter (modeOf mode) (repeatsOf repeats) buffer bytes ends ids places) places
+    cond (validNumbers mode repeats) (answersAfter (modeOf mode) (repeatsOf repeats) buffer bytes ends ids places) places

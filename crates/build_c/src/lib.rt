@@ -2,9 +2,9 @@
 // are inlined there.
 use build::Built;
 use jhash::refusals::UNFIT;
-use writer::numbers::known;
 use writer::numbers::mode_of;
 use writer::numbers::repeats_of;
+use writer::numbers::valid_numbers;
 ghost use mathlib.Core.Path.{_≡_};
 ghost use Prim.Native.Nat.{_<_};
 ghost use lib.ListN.{length};
@@ -46,7 +46,7 @@ pub extern "C" fn cqdb_build_parts(
         ⌝ }
     ensures untouched { λ r. ⌜ (0 < r .refusal → now (scratch .exit) ≡ now (scratch .entry)) ⌝ }
 {
-    if !known(mode, repeats) {
+    if !valid_numbers(mode, repeats) {
         return BuildAnswer {
             refusal: UNFIT,
             size: 0,

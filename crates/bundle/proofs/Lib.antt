@@ -9,4 +9,4 @@ pub mod OneImageMore
 pub mod AcceptedAppend
 pub mod AppendLists
 pub mod Theorem
-pub mod Rows
+pub mod ExampleRows

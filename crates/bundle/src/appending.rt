@@ -6,6 +6,7 @@ use super::Appended;
 use super::Counted;
 use super::walking::count;
 use image::HEAD_SIZE;
+use image::head::SIZE_AT;
 use image::store::store_bytes;
 use jhash::refusals::BROKEN_BUNDLE;
 use jhash::refusals::NO_ROOM;
@@ -29,7 +30,7 @@ fn unfit(image: &[u8]) -> bool
     if image.len() < HEAD_SIZE {
         return true;
     }
-    word(image, 4) as usize != image.len()
+    word(image, SIZE_AT) as usize != image.len()
 }
 
 // The number of the refusal that is due to an append, 0 where it is accepted. All of append's decision stands here.

@@ -17,7 +17,7 @@ use jhash::word::word;
 use reader::Opened;
 
 // The size of the image that begins at `at`; 0 where the walk breaks off there.
-fn size_at(file: &[u8], at: usize) -> usize
+fn image_size_at(file: &[u8], at: usize) -> usize
     requires { ⌜ at ≤ length (now file) ⌝ }
     ensures { λ r. ⌜ ImageSizeRead (now (file .entry)) at r ⌝ }
 {
@@ -41,7 +41,7 @@ pub fn place(file: &[u8], position: usize) -> PlaceAnswer
     let mut at = 0;
     let mut left = position;
     while at < file.len() {
-        let size = size_at(file, at);
+        let size = image_size_at(file, at);
         if size == 0 {
             return PlaceAnswer::Refused(BROKEN_BUNDLE);
         }
@@ -86,7 +86,7 @@ pub fn count(file: &[u8]) -> Counted
     let mut at = 0;
     let mut images = 0;
     while at < file.len() {
-        let size = size_at(file, at);
+        let size = image_size_at(file, at);
         if size == 0 {
             return Counted::Refused(BROKEN_BUNDLE);
         }

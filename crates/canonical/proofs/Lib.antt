@@ -16,7 +16,7 @@ pub mod ChecksSuffice
 pub mod ChecksHold
 pub mod ListImages
 pub mod Theorem
-pub mod Rows
+pub mod ExampleRows
 pub mod TableLoops
 pub mod EntryBuckets
 pub mod EntryLoop

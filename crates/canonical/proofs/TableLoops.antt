@@ -137,8 +137,8 @@ module _ {img : List ℕ} {end o t : ℕ} (r : Rows img end o t) where
     row-number d = rw (ne-eqb (bucketNumber img t) (2 * rowCount img t) d) at turn
 
     module _ (y : bucketNumber img t ≡ 2 * rowCount img t) where
-      pub row-offset : (tableAt img t ≡ cond (eqb (rowCount img t) 0) 0 o → ⊥) → false ≡ rowsOk img end 0 256
-      row-offset d = rw (eq-eqb (bucketNumber img t) (2 * rowCount img t) y, ne-eqb (tableAt img t) (cond (eqb (rowCount img t) 0) 0 o) d) at turn
+      pub table-offset : (tableAt img t ≡ cond (eqb (rowCount img t) 0) 0 o → ⊥) → false ≡ rowsOk img end 0 256
+      table-offset d = rw (eq-eqb (bucketNumber img t) (2 * rowCount img t) y, ne-eqb (tableAt img t) (cond (eqb (rowCount img t) 0) 0 o) d) at turn
 
       module _ (q : tableAt img t ≡ cond (eqb (rowCount img t) 0) 0 o) where
         pub row-table : tableOk img o (rowCount img t) ≡ false → false ≡ rowsOk img end 0 256

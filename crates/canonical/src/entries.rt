@@ -10,12 +10,12 @@ use image::entries::larger;
 use image::entries::name_at;
 use image::entries::raise;
 use image::entries::whole_length;
-use image::get_u32;
 use image::probe::first_empty_before;
 use image::probe::start;
 use image::rows::bucket_number;
 use image::rows::table_at;
-use image::size_at;
+use image::size_or_zero;
+use image::word_or_zero;
 use image::zero::has_zero;
 use jhash::hash_or_zero;
 use jhash::word::word;
@@ -97,8 +97,8 @@ pub(super) fn check_entries(
             };
         }
         let h = hash_or_zero(name_at(image, at, n));
-        let id = size_at(image, at);
-        let w = get_u32(image, o + 4 * id);
+        let id = size_or_zero(image, at);
+        let w = word_or_zero(image, o + 4 * id);
         if !(not_before(two, at, w) & check_entry(image, at, n, h)) {
             return EntriesChecked {
                 valid: false,

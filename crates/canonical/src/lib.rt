@@ -11,13 +11,17 @@ ghost use Rattle.canonical.specs.steps.Checks.{bodyOk};
 ghost use Rattle.canonical.specs.steps.Contracts.{CheckBodyPre};
 use entries::check_entries;
 use image::HEAD_SIZE;
-use image::get_u32;
-use image::size_at;
+use image::head::BACK_OFFSET_AT;
+use image::head::BACK_SIZE_AT;
+use image::head::FLAG_AT;
+use image::head::SIZE_AT;
+use image::size_or_zero;
+use image::word_or_zero;
 use reader::Opened;
 use tables::check_rows;
 use tables::count_used;
 use tables::counts_match;
-use tables::offset_of;
+use tables::offset_or_zero;
 
 mod entries; // entries.rt: one walk over the entries, each compared with its bucket and its link
 mod tables; // tables.rt: the rows of the head, and the tables
@@ -39,7 +43,7 @@ fn check_body(image: &[u8], n: u32, end: usize, back: usize) -> bool
     if !check_rows(image, end) {
         return false;
     }
-    let two = get_u32(image, 8) == 0;
+    let two = word_or_zero(image, FLAG_AT) == 0;
     let o = end + 16 * (n as usize);
     let mut counts = [0; 256];
     let found = check_entries(image, end, n, two, o, &mut counts);
@@ -64,20 +68,20 @@ fn check_opened(image: &[u8], n: u32) -> bool
     requires { ⌜ opening (now image) ≡ value n ⌝ }
     ensures { λ r. ⌜ r ≡ canonical (now (image .entry)) ⌝ }
 {
-    let size = size_at(image, 4);
+    let size = size_or_zero(image, SIZE_AT);
     if size != image.len() {
         return false;
     }
-    if get_u32(image, 8) > 1 {
+    if word_or_zero(image, FLAG_AT) > 1 {
         return false;
     }
-    let back = size_at(image, 16);
+    let back = size_or_zero(image, BACK_SIZE_AT);
     let behind = 16 * (n as usize) + 4 * back;
     if size < HEAD_SIZE + behind {
         return false;
     }
     let end = size - behind;
-    if size_at(image, 20) != offset_of(back, end + 16 * (n as usize)) {
+    if size_or_zero(image, BACK_OFFSET_AT) != offset_or_zero(back, end + 16 * (n as usize)) {
         return false;
     }
     check_body(image, n, end, back)

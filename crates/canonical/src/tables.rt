@@ -10,27 +10,30 @@ ghost use Rattle.canonical.specs.steps.HiddenBuckets.{bit, countAtLeast}
 ghost use Rattle.canonical.specs.steps.InPlace.{wordsAt};
 ghost use Rattle.canonical.specs.steps.Checks.{tableOk, rowsOk, countsMatch};
 ghost use Rattle.canonical.specs.steps.Contracts.{CheckTablePre, CheckRowsPre, WordsPre};
-use image::get_u32;
-use image::size_at;
+use image::head::BUCKET_NUMBERS_AT;
+use image::head::ROW_SIZE;
+use image::head::TABLE_OFFSETS_AT;
+use image::size_or_zero;
+use image::word_or_zero;
 
 // The number of buckets of table t, by its row.
 fn row_number(image: &[u8], t: usize) -> usize
     requires { ⌜ t < 256 ⌝ }
     ensures { λ r. ⌜ SizeRead (now (image .entry)) (28 + 8 * t) r ⌝ }
 {
-    size_at(image, 28 + 8 * t)
+    size_or_zero(image, BUCKET_NUMBERS_AT + ROW_SIZE * t)
 }
 
 // The offset of table t, by its row.
-fn row_offset(image: &[u8], t: usize) -> usize
+fn table_offset(image: &[u8], t: usize) -> usize
     requires { ⌜ t < 256 ⌝ }
     ensures { λ r. ⌜ SizeRead (now (image .entry)) (24 + 8 * t) r ⌝ }
 {
-    size_at(image, 24 + 8 * t)
+    size_or_zero(image, TABLE_OFFSETS_AT + ROW_SIZE * t)
 }
 
 // The offset word of a part of n elements at o: 0 if there is none.
-pub(super) fn offset_of(n: usize, o: usize) -> usize
+pub(super) fn offset_or_zero(n: usize, o: usize) -> usize
     ensures { λ r. ⌜ r ≡ cond (eqb n 0) 0 o ⌝ }
 {
     if n == 0 { 0 } else { o }
@@ -85,7 +88,7 @@ pub(super) fn check_rows(image: &[u8], end: usize) -> bool
         if number != 2 * c {
             return false;
         }
-        if row_offset(image, t) != offset_of(c, o) {
+        if table_offset(image, t) != offset_or_zero(c, o) {
             return false;
         }
         if !check_table(image, o, c) {
@@ -126,7 +129,7 @@ pub(super) fn count_used(image: &[u8], o: usize, n: usize) -> usize
     let mut used: usize = 0;
     let mut k: usize = 0;
     while k < n {
-        used += used_bit(get_u32(image, o + 4 * k));
+        used += used_bit(word_or_zero(image, o + 4 * k));
         k += 1;
     }
     used

@@ -16,14 +16,14 @@ use Rattle.writer.specs.State.{State, stateWith, beginning, beginRefusal, fresh
 use Rattle.writer.specs.Put.{putRefusal, appended, afterPut}
 use Rattle.writer.specs.Close.{closing, closeRefusal, closedSize, closed, afterClose}
 use Rattle.writer.specs.declared.c_record.Record.{Record}
-use Rattle.writer.specs.Numbers.{known, modeOf, repeatsOf}
+use Rattle.writer.specs.Numbers.{validNumbers, modeOf, repeatsOf}
 use Rattle.writer.specs.CRecord.{writerOf, recordOf, CState, cState, knownIn, stateIn, cStateOf}
 use Rattle.writer.proofs.CRecords.{back-and-forth}
 use Rattle.cqdb_c.specs.Writing.{LentWriter, lentWriter, numbersOf, sizesOf, beginningOf, numberIn, lentIn, leftByBegin}
 use Rattle.cqdb_c.specs.Writing.{putNumber, leftByPut, closingOf, refusalIn, sizeIn, leftByClose}
 
 -- begin with a mode or a choice of repeats above 1
-pub begin-unknown : (mode repeats n : ℕ) (l : LentWriter) → known mode repeats ≡ false
+pub begin-unknown : (mode repeats n : ℕ) (l : LentWriter) → validNumbers mode repeats ≡ false
     → (2 ≡ numberIn (beginningOf mode repeats n)) × (l ≡ leftByBegin mode repeats n l)
 unfolding beginningOf leftByBegin
 begin-unknown mode repeats n l over = rw over (refl, refl)
@@ -35,7 +35,7 @@ stored (refusal k) l after = lentWriter (l .numbers) (l .sizes) after
 
 -- begin with known ones: b is what the writer's begin answers, and after the counts that it leaves
 pub begin-known : (mode repeats n : ℕ) (l : LentWriter) (after : List ℕ) (m : Mode) (r : Repeats) (b : Outcome CQDBWriter) →
-    known mode repeats ≡ true → m ≡ modeOf mode → r ≡ repeatsOf repeats → (b ≡ beginning m r n) × (after ≡ countsBegun n (l .counts)) →
+    validNumbers mode repeats ≡ true → m ≡ modeOf mode → r ≡ repeatsOf repeats → (b ≡ beginning m r n) × (after ≡ countsBegun n (l .counts)) →
     (numberIn b ≡ numberIn (beginningOf mode repeats n)) × (stored b l after ≡ leftByBegin mode repeats n l)
 unfolding beginningOf leftByBegin beginning countsBegun
 begin-known mode repeats n l after m r b fine f g begun =
@@ -52,7 +52,7 @@ begin-known mode repeats n l after m r b fine f g begun =
     same true = refl
     same false = refl
 
--- put with a record that is none of 01's
+-- put with a record that is no record of 01
 pub put-unknown : (h : CState) (e : Entry) → knownIn h ≡ false → (2 ≡ putNumber h e) × (h ≡ leftByPut h e)
 unfolding putNumber leftByPut
 put-unknown h e over = rw over (refl, refl)
@@ -72,7 +72,7 @@ put-known h e v w' r counts buffer k fine is put back =
       ap (λ (x : Record). cState x counts buffer) back ∙ ap cStateOf (put .1 ∙ ap (λ (s : State). afterPut s e) same),
     )
 
--- close with a record that is none of 01's
+-- close with a record that is no record of 01
 pub close-unknown : (h : CState) → knownIn h ≡ false →
     (2 ≡ refusalIn (closingOf h)) × ((0 ≡ sizeIn (closingOf h)) × (h ≡ leftByClose h))
 unfolding closingOf leftByClose

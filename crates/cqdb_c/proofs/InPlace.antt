@@ -12,7 +12,7 @@ use Rattle.writer.specs.Put.{putRefusal, writerAfterEntry, appended, afterPut}
 use Rattle.writer.specs.Close.{closing, afterClose}
 use Rattle.writer.specs.Grown.{withLength, grownRefusal, grownWriter}
 use Rattle.writer.specs.declared.c_record.Record.{Record}
-use Rattle.writer.specs.Numbers.{known}
+use Rattle.writer.specs.Numbers.{validNumbers}
 use Rattle.writer.specs.CRecord.{writerOf, recordOf, CState, cState, knownIn}
 use Rattle.writer.proofs.CRecords.{known-back, recordAfter, Stay, whole-stored, recordLonger}
 use Rattle.cqdb_c.specs.Writing.{putNumber, leftByPut, closingOf, refusalIn, sizeIn, leftByClose}
@@ -60,7 +60,7 @@ close-in-place h v w' buffer d k n fine is close number told =
 
 -- ---- grown: the length is stored
 
-module _ (r : Record) (n : ℕ) {v w : CQDBWriter} {k : ℕ} (fine : known (r .mode) (r .repeats) ≡ true) (is : v ≡ writerOf r)
+module _ (r : Record) (n : ℕ) {v w : CQDBWriter} {k : ℕ} (fine : validNumbers (r .mode) (r .repeats) ≡ true) (is : v ≡ writerOf r)
     (grown : (k ≡ grownRefusal v n) × (w ≡ grownWriter v n)) where
   longer-is : recordLonger r (grownWriter (writerOf r) n .length) ≡ recordOf (grownWriter (writerOf r) n)
   longer-is = by-length (ltb n (r .length))

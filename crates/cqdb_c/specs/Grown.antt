@@ -4,12 +4,12 @@ use Prim.Native.Nat.{ℕ}
 use mathlib.Core.Bool.{cond}
 use Rattle.writer.specs.Grown.{grownRefusal, grownWriter}
 use Rattle.writer.specs.declared.c_record.Record.{Record}
-use Rattle.writer.specs.Numbers.{known}
+use Rattle.writer.specs.Numbers.{validNumbers}
 use Rattle.writer.specs.CRecord.{writerOf, recordOf}
 use Rattle.jhash.specs.Refusals as refused
 
 unfoldable pub grownNumber : Record → ℕ → ℕ
-grownNumber r n = cond (known (r .mode) (r .repeats)) (grownRefusal (writerOf r) n) refused.unfit
+grownNumber r n = cond (validNumbers (r .mode) (r .repeats)) (grownRefusal (writerOf r) n) refused.unfit
 
 unfoldable pub recordGrown : Record → ℕ → Record
-recordGrown r n = cond (known (r .mode) (r .repeats)) (recordOf (grownWriter (writerOf r) n)) r
+recordGrown r n = cond (validNumbers (r .mode) (r .repeats)) (recordOf (grownWriter (writerOf r) n)) r

@@ -11,7 +11,7 @@ use Rattle.writer.specs.State.{beginning}
 use Rattle.writer.specs.Put.{putRefusal, afterPut}
 use Rattle.writer.specs.Close.{closing, afterClose}
 use Rattle.writer.specs.declared.c_record.Record.{Record}
-use Rattle.writer.specs.Numbers.{known, modeOf, repeatsOf}
+use Rattle.writer.specs.Numbers.{validNumbers, modeOf, repeatsOf}
 use Rattle.writer.specs.CRecord.{recordOf, CState, knownIn, stateIn, cStateOf}
 use Rattle.jhash.specs.Refusals as refused
 
@@ -35,7 +35,7 @@ sizesOf r = r .length ∷ r .end ∷ []
 -- the rule of begin for a buffer of n bytes: a fresh record, or a refusal
 unfoldable pub beginningOf : ℕ → ℕ → ℕ → Outcome CQDBWriter
 beginningOf mode repeats n =
-    cond (known mode repeats) (beginning (modeOf mode) (repeatsOf repeats) n) (refusal refused.unfit)
+    cond (validNumbers mode repeats) (beginning (modeOf mode) (repeatsOf repeats) n) (refusal refused.unfit)
 
 abbrev pub numberIn : Outcome CQDBWriter → ℕ
 numberIn (value w) = 0

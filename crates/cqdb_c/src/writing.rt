@@ -1,14 +1,14 @@
 // Writing, for C. The record is lent in place, as four numbers and two sizes; the 256 table counts and the buffer are
-// lent, too. A record whose mode or choice of repeats is neither 0 nor 1 is none of 01's and fits no buffer.
+// lent, too. A record whose mode or choice of repeats is neither 0 nor 1 is no record of 01 and fits no buffer.
 use jhash::refusals::UNFIT;
 use writer::Begun;
 use writer::Closed;
 use writer::c_record::record_in;
 use writer::c_record::record_of;
 use writer::c_record::writer_of;
-use writer::numbers::known;
 use writer::numbers::mode_of;
 use writer::numbers::repeats_of;
+use writer::numbers::valid_numbers;
 ghost use mathlib.Core.Path.{_≡_};
 ghost use lib.ListN.{length};
 ghost use Rattle.writer.specs.Put.{entryOf};
@@ -43,7 +43,7 @@ pub extern "C" fn cqdb_begin_parts(
         (lentWriter (now (numbers .entry)) (now (sizes .entry)) (now (counts .entry)))
         ⌝ }
 {
-    if !known(mode, repeats) {
+    if !valid_numbers(mode, repeats) {
         return UNFIT;
     }
     let begun = writer::begin(mode_of(mode), repeats_of(repeats), &mut *counts, buf);
@@ -83,7 +83,7 @@ pub extern "C" fn cqdb_put_parts(
         ⌝ }
 {
     let w = record_in(&*numbers, &*sizes);
-    if !known(w.mode, w.repeats) {
+    if !valid_numbers(w.mode, w.repeats) {
         return UNFIT;
     }
     let done = writer::put(writer_of(w), &mut *counts, &mut *buf, name, id);
@@ -139,7 +139,7 @@ pub extern "C" fn cqdb_close_parts(
         ⌝ }
 {
     let w = record_in(numbers, sizes);
-    if !known(w.mode, w.repeats) {
+    if !valid_numbers(w.mode, w.repeats) {
         return CloseAnswer {
             refusal: UNFIT,
             size: 0,
@@ -176,7 +176,7 @@ pub extern "C" fn cqdb_grown_parts(numbers: &[u32; 4], sizes: &mut [u64; 2], lon
         ⌝ }
 {
     let w = record_in(numbers, &*sizes);
-    if !known(w.mode, w.repeats) {
+    if !valid_numbers(w.mode, w.repeats) {
         return UNFIT;
     }
     let done = writer::grown(writer_of(w), longer);

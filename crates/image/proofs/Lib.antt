@@ -19,3 +19,4 @@ pub mod EntryWalk
 pub mod Equal
 pub mod Unbroken
 pub mod Zeros
+pub mod NameEnds

@@ -23,7 +23,7 @@ placedIn es = placed headSize es
 
 -- ---- the five parts
 
--- head, rows, entries, tables and links: five lists one after the other, each behind the lengths of those before it
+-- head, rows, entries, tables and back words: five lists one after the other, each behind the lengths of those before it
 module _ (h r e t l : List ℕ) where
   pub five-1 : {img : List ℕ} → At img 0 (h ++ r ++ e ++ t ++ l) → At img 0 h
   five-1 a = at-left h r (at-left (h ++ r) e (at-left (h ++ r ++ e) t (at-left (h ++ r ++ e ++ t) l a)))
@@ -82,9 +82,9 @@ module _ (mode : Mode) (es : List Entry) where
       sum : length H + length R + length E ≡ entriesEnd es
       sum = omega (arith, length-headWords mode es, length-tableRows (entriesEnd es) (placedIn es), length-entries es)
 
-  pub links-at : At (image mode es) (entriesEnd es + 16 * length es) (backWords (placedIn es) (backSizeOf mode es))
+  pub back-words-at : At (image mode es) (entriesEnd es + 16 * length es) (backWords (placedIn es) (backSizeOf mode es))
   unfolding H R E T L
-  links-at = at-same sum (five-5 H R E T L whole)
+  back-words-at = at-same sum (five-5 H R E T L whole)
     where
       sum : length H + length R + length E + length T ≡ entriesEnd es + 16 * length es
       sum =
@@ -192,11 +192,11 @@ module _ (mode : Mode) (es : List Entry) (fits : imageSize mode es ≤ 429496729
   bucket-at =
       bucket-of (placedIn es) (λ (t : ℕ). table t (placedIn es)) (λ t. length-table t (placedIn es)) (entriesEnd es) (tables-at mode es)
 
-  -- the back links
+  -- the back words
   pub backWord-at : (i : ℕ) → i < backSizeOf mode es → At (image mode es) (entriesEnd es + 16 * length es + 4 * i) (le32 (backWord (placedIn es) i))
   unfolding backWords
   backWord-at i h =
       let e : 0 + i ≡ i = omega arith in
       at-equal (ap (λ (k : ℕ). le32 (backWord (placedIn es) k)) (getD-range 0 (backSizeOf mode es) i h ∙ e))
       (at-part (λ (k : ℕ). le32 (backWord (placedIn es) k)) 4 (λ k. length-le32 (backWord (placedIn es) k)) (entriesEnd es + 16 * length es)
-      (range 0 (backSizeOf mode es)) i 0 (links-at mode es) (rw (length-range 0 (backSizeOf mode es)) h))
+      (range 0 (backSizeOf mode es)) i 0 (back-words-at mode es) (rw (length-range 0 (backSizeOf mode es)) h))

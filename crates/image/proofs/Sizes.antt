@@ -186,7 +186,7 @@ pub length-tables : (ps : List Placed) → length (tables ps) ≡ 16 * length ps
 unfolding tables
 length-tables ps = length-tables-to 256 ps ∙ ap (λ (n : ℕ). 16 * n) (before-all ps)
 
--- ---- head, rows, links, and the whole
+-- ---- head, rows, back words, and the whole
 
 pub length-headBytes : (size mode n o : ℕ) → length (headBytes size mode n o) ≡ 24
 unfolding headBytes

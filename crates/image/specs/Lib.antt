@@ -6,4 +6,5 @@ pub mod Head
 pub mod Stored
 pub mod Tally
 pub mod Zero
+pub mod PackedNames
 pub mod steps

@@ -2,3 +2,4 @@
 pub mod EntryLength
 pub mod Contracts
 pub mod Walk
+pub mod NthName

@@ -1,5 +1,5 @@
 // What an image is made of: its words, read and stored little-endian anywhere in a slice, byte strings compared, the
-// entries in some bytes, probe sequences, and the writer's mode.
+// entries in some bytes, probe sequences, packed names, and the writer's mode.
 ghost use mathlib.Core.Path.{_≡_};
 ghost use Prim.Native.Nat.{_<_};
 ghost use lib.ListN.{length, set};
@@ -13,6 +13,8 @@ use store::store_word;
 
 pub mod entries; // entries.rt: broken entries, whole ones, and a walk over them
 pub mod equality; // equality.rt: same
+pub mod head; // head.rt: where the words of the head stand
+pub mod packed; // packed.rt: packed names
 pub mod probe; // probe.rt: the probe sequence of a search
 pub mod rows; // rows.rt: the row of a hash's table in the head
 pub mod scratch; // scratch.rt: clear_words
@@ -45,7 +47,7 @@ pub fn flag_word(mode: Mode) -> u32
 }
 
 // The little-endian word at `at`; bytes past the end count as 0.
-pub fn get_u32(s: &[u8], at: usize) -> u32
+pub fn word_or_zero(s: &[u8], at: usize) -> u32
     ensures { λ r. ⌜ r ≡ word (now (s .entry)) at ⌝ }
 {
     if s.len() <= at {
@@ -58,14 +60,14 @@ pub fn get_u32(s: &[u8], at: usize) -> u32
 }
 
 // The same as a size.
-pub fn size_at(s: &[u8], at: usize) -> usize
+pub fn size_or_zero(s: &[u8], at: usize) -> usize
     ensures { λ r. ⌜ SizeRead (now (s .entry)) at r ⌝ }
 {
-    get_u32(s, at) as usize
+    word_or_zero(s, at) as usize
 }
 
 // A byte stored at `at`; past the end nothing is stored.
-fn put_byte(buf: &mut [u8], at: usize, b: u8)
+fn store_byte_clipped(buf: &mut [u8], at: usize, b: u8)
     ensures { λ _. ⌜ now (buf .exit) ≡ set (now (buf .entry)) at b ⌝ }
 {
     if at < buf.len() {
@@ -74,25 +76,25 @@ fn put_byte(buf: &mut [u8], at: usize, b: u8)
 }
 
 // The four bytes of v stored from `at` on, where the last may be past the end.
-fn put_near_end(buf: &mut [u8], at: usize, v: u32)
+fn store_near_end(buf: &mut [u8], at: usize, v: u32)
     requires { ⌜ at < length (now buf) ⌝ }
     ensures { λ _. ⌜ now (buf .exit) ≡ sets (now (buf .entry)) at (le32 v) ⌝ }
 {
-    put_byte(&mut *buf, at, (v % 256) as u8);
-    put_byte(&mut *buf, at + 1, (v / 256 % 256) as u8);
-    put_byte(&mut *buf, at + 2, (v / 65536 % 256) as u8);
-    put_byte(&mut *buf, at + 3, (v / 16777216 % 256) as u8);
+    store_byte_clipped(&mut *buf, at, (v % 256) as u8);
+    store_byte_clipped(&mut *buf, at + 1, (v / 256 % 256) as u8);
+    store_byte_clipped(&mut *buf, at + 2, (v / 65536 % 256) as u8);
+    store_byte_clipped(&mut *buf, at + 3, (v / 16777216 % 256) as u8);
 }
 
 // The four bytes of v stored from `at` on, little-endian; past the end nothing is stored.
-pub fn put_u32(buf: &mut [u8], at: usize, v: u32)
+pub fn store_word_clipped(buf: &mut [u8], at: usize, v: u32)
     ensures { λ _. ⌜ now (buf .exit) ≡ sets (now (buf .entry)) at (le32 v) ⌝ }
 {
     if buf.len() <= at {
         return;
     }
     if buf.len() - at < 4 {
-        put_near_end(&mut *buf, at, v);
+        store_near_end(&mut *buf, at, v);
         return;
     }
     store_word(&mut *buf, at, v);

@@ -2,18 +2,21 @@
 ghost use Prim.Native.Nat.{_+_, _*_};
 ghost use Rattle.image.specs.Tables.{tableOf};
 ghost use Rattle.image.specs.steps.Contracts.{SizeRead};
-use super::size_at;
+use super::head::BUCKET_NUMBERS_AT;
+use super::head::ROW_SIZE;
+use super::head::TABLE_OFFSETS_AT;
+use super::size_or_zero;
 
 // The offset of a hash's table.
 pub fn table_at(buf: &[u8], h: u32) -> usize
     ensures { λ r. ⌜ SizeRead (now (buf .entry)) (24 + 8 * tableOf h) r ⌝ }
 {
-    size_at(buf, 24 + 8 * ((h % 256) as usize))
+    size_or_zero(buf, TABLE_OFFSETS_AT + ROW_SIZE * ((h % 256) as usize))
 }
 
 // How many buckets it has.
 pub fn bucket_number(buf: &[u8], h: u32) -> usize
     ensures { λ r. ⌜ SizeRead (now (buf .entry)) (28 + 8 * tableOf h) r ⌝ }
 {
-    size_at(buf, 28 + 8 * ((h % 256) as usize))
+    size_or_zero(buf, BUCKET_NUMBERS_AT + ROW_SIZE * ((h % 256) as usize))
 }

@@ -1,5 +1,5 @@
 // The index of the names that a buffer holds, in lent words, and a put that probes it: with repeats off it compares the
-// name with the entries of an equal hash alone, where `writer::put` walks all earlier ones.
+// name only with entries whose hash is equal, where `writer::put` walks all earlier ones.
 ghost use mathlib.Core.Path.{_≡_};
 ghost use Rattle.writer.specs.State.{stateWith, refusesRepeats};
 ghost use Rattle.writer.specs.Put.{entryOf};

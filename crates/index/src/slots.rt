@@ -22,7 +22,7 @@ fn has_name(bytes: &[u8], name: &[u8], at: u32) -> bool
 }
 
 // The hash in a slot.
-fn hash_at(slots: &[u32], k: usize) -> u32
+fn slot_hash(slots: &[u32], k: usize) -> u32
     requires { ⌜ k < slotCount (now slots) ⌝ }
     ensures { λ r. ⌜ r ≡ slotAt (now (slots .entry)) k .hash ⌝ }
 {
@@ -53,7 +53,7 @@ fn probe(bytes: &[u8], slots: &[u32], h: u32, name: &[u8]) -> usize
         if at == 0 {
             return k;
         }
-        if hash_at(slots, k) == h {
+        if slot_hash(slots, k) == h {
             if has_name(bytes, name, at) {
                 return m + 1;
             }

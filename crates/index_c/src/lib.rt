@@ -1,5 +1,5 @@
 // The index for C: the record is lent in place, as four numbers and two sizes; the 256 table counts, the buffer and the
-// slots are lent, too. A record whose mode or choice of repeats is neither 0 nor 1 is none of 01's and fits no buffer.
+// slots are lent, too. A record whose mode or choice of repeats is neither 0 nor 1 is no record of 01 and fits no buffer.
 // This crate is compiled by itself, so that hash, probe and store have one caller each and are inlined
 // (docs/DECISIONS.md, "Why several export crates?").
 ghost use mathlib.Core.Path.{_≡_};
@@ -10,7 +10,7 @@ ghost use Rattle.index_c.specs.IndexC.{indexWords, PutIndexedHeld, Index
 use jhash::refusals::UNFIT;
 use writer::c_record::record_in;
 use writer::c_record::writer_of;
-use writer::numbers::known;
+use writer::numbers::valid_numbers;
 
 // How many words to lend for an index of this many names: two slots a name, two words a slot; the largest number where
 // that is more than a size can be.
@@ -39,7 +39,7 @@ pub extern "C" fn cqdb_index_parts(
         ⌝ }
 {
     let w = record_in(numbers, sizes);
-    if !known(w.mode, w.repeats) {
+    if !valid_numbers(w.mode, w.repeats) {
         return UNFIT;
     }
     index::index(writer_of(w), counts, buf, &mut *slots)
@@ -69,7 +69,7 @@ pub extern "C" fn cqdb_put_indexed_parts(
         ⌝ }
 {
     let w = record_in(&*numbers, &*sizes);
-    if !known(w.mode, w.repeats) {
+    if !valid_numbers(w.mode, w.repeats) {
         return UNFIT;
     }
     let done = index::put_indexed(writer_of(w), &mut *counts, &mut *buf, &mut *slots, name, id);

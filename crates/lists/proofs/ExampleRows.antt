@@ -59,20 +59,20 @@ module _ (i k : ℕ) where
       small-with-first false p q = p
 
 module _ (mode : Mode) (es : List Entry) (small : imageSize mode es ≤ 4294967295) where
-  link-small : (i : ℕ) → backWord (placed headSize es) i < 2 ^ 32
+  back-word-small : (i : ℕ) → backWord (placed headSize es) i < 2 ^ 32
   unfolding backWord placedOfId ofIt
-  link-small i = last-small i (2 ^ 32) 0 headSize es (omega arith) (omega arith)
+  back-word-small i = last-small i (2 ^ 32) 0 headSize es (omega arith) (omega arith)
 
-  link-word : (i : ℕ) → i < backSizeOf mode es → word (image mode es) (backOffset mode es + 4 * i) ≡ backWord (placed headSize es) i
+  back-word-read : (i : ℕ) → i < backSizeOf mode es → word (image mode es) (backOffset mode es + 4 * i) ≡ backWord (placed headSize es) i
   unfolding backOffset
-  link-word i h =
-      rw (ne-eqb (backSizeOf mode es) 0 (λ z. omega arith)) (at-word (backWord (placed headSize es) i) (backWord-at mode es small i h) (link-small i))
+  back-word-read i h =
+      rw (ne-eqb (backSizeOf mode es) 0 (λ z. omega arith)) (at-word (backWord (placed headSize es) i) (backWord-at mode es small i h) (back-word-small i))
 
   back-array : backArray (image mode es) ≡ map (backWord (placed headSize es)) (range 0 (backSizeOf mode es))
   back-array =
       rw (backOffsetAt-image mode es small, backSizeAt-image mode es small)
       (map-range (λ (i : ℕ). word (image mode es) (backOffset mode es + 4 * i)) (backWord (placed headSize es)) 0 (backSizeOf mode es)
-      (λ i p. link-word i (omega arith)))
+      (λ i p. back-word-read i (omega arith)))
 
 -- ---- what is computed of a row
 

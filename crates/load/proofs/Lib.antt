@@ -5,4 +5,4 @@ pub mod BeginAnswers
 pub mod AcceptedEntries
 pub mod BytesBehind
 pub mod Theorem
-pub mod Rows
+pub mod ExampleRows

@@ -102,9 +102,9 @@ module _ (es : List Entry) (fits : imageSize Twoway es ≤ 4294967295) (id : ℕ
       ∙ ap (lastNameFrom none) (placed-of-id id headSize es)
       ∙ last-of-all (ofId id es)
 
-  link-word : id < backSize es → word (image Twoway es) (entriesEnd es + 16 * length es + 4 * id) ≡ backWord (placedIn es) id
+  back-word-read : id < backSize es → word (image Twoway es) (entriesEnd es + 16 * length es + 4 * id) ≡ backWord (placedIn es) id
   unfolding backWord
-  link-word h =
+  back-word-read h =
       at-word (backWord (placedIn es) id) (backWord-at Twoway es fits id h)
       (last-below (image Twoway es) img-small 0 (placedOfId id (placedIn es)) (omega arith) of-id)
 
@@ -133,7 +133,7 @@ module _ (es : List Entry) (fits : imageSize Twoway es ≤ 4294967295) (id : ℕ
         back-there (omega arith),
         ne-eqb (entriesEnd es + 16 * length es) 0 (λ z. omega arith),
         lt-leb (backSize es) id h,
-        link-word h,
+        back-word-read h,
       )
       backWord-named
 

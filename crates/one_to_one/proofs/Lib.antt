@@ -6,5 +6,5 @@ pub mod Puts
 pub mod Pairs
 pub mod Theorem
 pub mod Exchanges
-pub mod Rows
+pub mod ExampleRows
 pub mod MissedExchange

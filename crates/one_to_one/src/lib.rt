@@ -12,8 +12,9 @@ use canonical::is_canonical;
 use image::HEAD_SIZE;
 use image::entries::name_at;
 use image::equality::same;
-use image::get_u32;
-use image::size_at;
+use image::head::FLAG_AT;
+use image::size_or_zero;
+use image::word_or_zero;
 use jhash::refusals::NOT_CANONICAL;
 use reader::Named;
 use reader::ToId;
@@ -57,13 +58,13 @@ fn first_failure(image: &[u8], n: u32) -> OneToOne
     requires { ⌜ CanonicalImage (now image) n ⌝ }
     ensures { λ r. ⌜ oneToOneOf r ≡ value (firstFailureIn (now (image .entry))) ⌝ }
 {
-    let twoway = get_u32(image, 8) == 0;
+    let twoway = word_or_zero(image, FLAG_AT) == 0;
     let mut at = HEAD_SIZE;
     let mut left = n;
     while left > 0 {
-        let len = size_at(image, at + 4);
+        let len = size_or_zero(image, at + 4);
         let name = name_at(image, at, len);
-        let id = get_u32(image, at);
+        let id = word_or_zero(image, at);
         if !finds_id(image, name, id) {
             return OneToOne::OtherId { offset: at as u32 };
         }

@@ -2,4 +2,4 @@
 pub mod PairLaws
 pub mod Places
 pub mod Theorem
-pub mod Rows
+pub mod ExampleRows

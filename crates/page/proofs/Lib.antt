@@ -5,4 +5,4 @@ pub mod Pages
 pub mod Printable
 pub mod IdFields
 pub mod Theorem
-pub mod Rows
+pub mod ExampleRows

@@ -13,7 +13,7 @@ pub mod Changed
 pub mod Images
 pub mod Theorem
 pub mod Held
-pub mod Rows
+pub mod ExampleRows
 pub mod DateRows
 pub mod RefusedRows
 pub mod Distinct

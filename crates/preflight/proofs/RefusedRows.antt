@@ -17,7 +17,7 @@ use Rattle.reader.specs.Naming.{nameGiven}
 use Rattle.lookup_laws.specs.Answer.{ofId}
 use Rattle.canonical.specs.steps.Made.{Made, Storable}
 use Rattle.canonical.proofs.ReadBack.{made-mode}
-use Rattle.canonical.proofs.Rows.{headOnlyRows-hold}
+use Rattle.canonical.proofs.ExampleRows.{headOnlyRows-hold}
 use Rattle.sheet.specs.Format.{countAt, countBytes, ids, idBytes, sectionBytes, sheetBytes}
 use Rattle.sheet.specs.SheetReading.{sectionAt, sections, readSheet, readLists}
 use Rattle.preflight.specs.Ids.{occurs, passing, firstPlace}

@@ -6,7 +6,8 @@ ghost use Rattle.preflight.specs.Verdicts.{isWhole, isYes, ofRound, ofCh
 ghost use Rattle.preflight.specs.Preflight.{preflightFirst, preflight};
 use counts::compared;
 use counts::unsighted;
-use image::get_u32;
+use image::head::FLAG_AT;
+use image::word_or_zero;
 use names::first_nameless;
 use names::first_renamed;
 use names::first_shared;
@@ -69,7 +70,7 @@ fn is_whole(image: &[u8]) -> bool
     if !canonical::is_canonical(image) {
         return false;
     }
-    get_u32(image, 8) == 0
+    word_or_zero(image, FLAG_AT) == 0
 }
 
 // The questions of the round by the new image alone.

@@ -47,7 +47,7 @@ sliceOr image other unnamed = other
 abbrev pub nameSlice : Slice → ℕ → Slice
 nameSlice image id = sliceOr image (subslice image 0 0) (naming (image .bytes) id)
 
--- name or stand-in
+-- "name or stand-in": the part, or the caller's placeholder
 abbrev pub nameOr : Slice → ℕ → Slice → Slice
 nameOr image id other = sliceOr image other (naming (image .bytes) id)
 

@@ -7,6 +7,7 @@ use super::Named;
 use super::Stepped;
 use super::naming::no_back;
 use super::naming::to_str;
+use image::head::BACK_SIZE_AT;
 use jhash::word::word;
 
 // A walk whose next id is 0.
@@ -40,7 +41,7 @@ pub fn size_hint(image: &[u8], walk: Iter) -> u32
     if no_back(image) {
         return 0;
     }
-    let size = word(image, 16);
+    let size = word(image, BACK_SIZE_AT);
     let id = walk.next;
     if size <= id {
         return 0;

@@ -16,6 +16,9 @@ use super::ToId;
 use image::HEAD_SIZE;
 use image::entries::broken;
 use image::equality::same;
+use image::head::BUCKET_NUMBERS_AT;
+use image::head::ROW_SIZE;
+use image::head::TABLE_OFFSETS_AT;
 use image::probe::next;
 use image::probe::start;
 use jhash::Hashed;
@@ -155,8 +158,8 @@ pub fn find_table(image: &[u8], h: u32) -> Table
     ensures { λ r. ⌜ TableFound (now (image .entry)) h (r .at) (r .n) ⌝ }
 {
     let t = (h % 256) as usize;
-    let at = word(image, 24 + 8 * t);
-    let n = word(image, 28 + 8 * t);
+    let at = word(image, TABLE_OFFSETS_AT + ROW_SIZE * t);
+    let n = word(image, BUCKET_NUMBERS_AT + ROW_SIZE * t);
     if at == 0 {
         return Table { at: 0, n: 0 };
     }

@@ -7,6 +7,8 @@ use super::Named;
 use super::opening::back_past_end;
 use image::HEAD_SIZE;
 use image::entries::broken;
+use image::head::BACK_OFFSET_AT;
+use image::head::BACK_SIZE_AT;
 use jhash::word::word;
 
 // Has the image no back array that can be read?
@@ -16,7 +18,7 @@ pub(crate) fn no_back(image: &[u8]) -> bool
     if image.len() < HEAD_SIZE {
         return true;
     }
-    if word(image, 20) == 0 {
+    if word(image, BACK_OFFSET_AT) == 0 {
         return true;
     }
     back_past_end(image)
@@ -29,10 +31,13 @@ pub fn to_str(image: &[u8], id: u32) -> Named
     if no_back(image) {
         return Named::Nothing;
     }
-    if word(image, 16) <= id {
+    if word(image, BACK_SIZE_AT) <= id {
         return Named::Nothing;
     }
-    let at = word(image, word(image, 20) as usize + 4 * (id as usize));
+    let at = word(
+        image,
+        word(image, BACK_OFFSET_AT) as usize + 4 * (id as usize),
+    );
     if at == 0 {
         return Named::Nothing;
     }
@@ -53,7 +58,7 @@ pub fn name<'a>(image: &'a [u8], id: u32) -> &'a [u8]
     name_or(image, id, &image[0..0])
 }
 
-// The subslice of the image that is an id's name, or the stand-in itself if it has none.
+// The subslice of the image that is an id's name, or the placeholder itself if it has none.
 pub fn name_or<'a>(image: &'a [u8], id: u32, stand_in: &'a [u8]) -> &'a [u8]
     ensures { λ r. ⌜ slice r ≡ nameOr (slice (image .entry)) id (slice (stand_in .entry)) ⌝ }
 {

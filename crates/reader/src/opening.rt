@@ -11,6 +11,12 @@ ghost use Rattle.reader.specs.steps.Tables.{SlacksFit, TableAdded, AllTa
 use super::Opened;
 use image::BYTEORDER_CHECK;
 use image::HEAD_SIZE;
+use image::head::BACK_OFFSET_AT;
+use image::head::BACK_SIZE_AT;
+use image::head::BUCKET_NUMBERS_AT;
+use image::head::BYTEORDER_AT;
+use image::head::ROW_SIZE;
+use image::head::TABLE_OFFSETS_AT;
 use jhash::refusals::BACK_LEAVES;
 use jhash::refusals::TABLE_LEAVES;
 use jhash::refusals::TOO_SHORT;
@@ -70,8 +76,8 @@ fn all_tables(image: &[u8]) -> TableSums
         all = with_table(
             all,
             image.len(),
-            word(image, 24 + 8 * t),
-            word(image, 28 + 8 * t),
+            word(image, TABLE_OFFSETS_AT + ROW_SIZE * t),
+            word(image, BUCKET_NUMBERS_AT + ROW_SIZE * t),
         );
         t += 1;
     }
@@ -96,8 +102,8 @@ fn some_past_end_by_each(image: &[u8]) -> bool
         one = one
             | past_end(
                 image.len(),
-                word(image, 24 + 8 * t),
-                word(image, 28 + 8 * t),
+                word(image, TABLE_OFFSETS_AT + ROW_SIZE * t),
+                word(image, BUCKET_NUMBERS_AT + ROW_SIZE * t),
             );
         t += 1;
     }
@@ -121,8 +127,8 @@ pub(crate) fn back_past_end(image: &[u8]) -> bool
     requires { ⌜ 2072 ≤ length (now image) ⌝ }
     ensures { λ r. ⌜ r ≡ backPastEnd (now (image .entry)) ⌝ }
 {
-    let at = word(image, 20) as usize;
-    let n = word(image, 16) as usize;
+    let at = word(image, BACK_OFFSET_AT) as usize;
+    let n = word(image, BACK_SIZE_AT) as usize;
     image.len() < at + 4 * n
 }
 
@@ -138,14 +144,14 @@ pub fn open(image: &[u8]) -> Opened
     if !has_letters(image) {
         return Opened::Refused(WRONG_LETTERS);
     }
-    if word(image, 12) != BYTEORDER_CHECK {
+    if word(image, BYTEORDER_AT) != BYTEORDER_CHECK {
         return Opened::Refused(WRONG_BYTE_ORDER);
     }
     let all = all_tables(image);
     if some_past_end(image, all.slacks) {
         return Opened::Refused(TABLE_LEAVES);
     }
-    if 0 < word(image, 20) {
+    if 0 < word(image, BACK_OFFSET_AT) {
         if back_past_end(image) {
             return Opened::Refused(BACK_LEAVES);
         }

@@ -3,9 +3,9 @@ use Prim.Native.Nat.{ℕ}
 use mathlib.Core.Option.{Option, none, some}
 use Rattle.reader.specs.Naming.{Naming, place, unnamed}
 use Rattle.changes.specs.Changes.{Change, changed, unchanged}
-use Rattle.reader_c.specs.declared.comparing.NameAnswer.{NameAnswer}
-use Rattle.reader_c.specs.declared.comparing.ChangeAnswer.{ChangeAnswer}
-use Rattle.reader_c.specs.declared.comparing.MovedAnswer.{MovedAnswer}
+use Rattle.reader_c.specs.declared.change.NameAnswer.{NameAnswer}
+use Rattle.reader_c.specs.declared.change.ChangeAnswer.{ChangeAnswer}
+use Rattle.reader_c.specs.declared.change.MovedAnswer.{MovedAnswer}
 
 -- 1 and the place of the name, or three zeros
 abbrev pub nameAnswer : Naming → NameAnswer

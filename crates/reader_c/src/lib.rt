@@ -4,5 +4,5 @@ pub mod ordering; // ordering.rt: cqdb_references_first
 pub mod sheets; // sheets.rt: cqdb_sheet_read, cqdb_sheet_write
 pub mod pages; // pages.rt: cqdb_page_length, cqdb_page, cqdb_page_part
 pub mod bundles; // bundles.rt: cqdb_bundle_open, cqdb_bundle_append, cqdb_bundle_count
-pub mod dates; // dates.rt: cqdb_name_on
-pub mod comparing; // comparing.rt: cqdb_next_change, cqdb_moved
+pub mod windows; // windows.rt: cqdb_name_on
+pub mod change; // change.rt: cqdb_next_change, cqdb_moved

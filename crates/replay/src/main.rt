@@ -7,6 +7,8 @@
 //
 // The name hash (main.rt):
 //     hash 00000001 460423ad 68    the hash of the name with this start value
+// The rotation by table (rotations.rt):
+//     rota 00000005 0000ffff 00c0ffee    so many bits: the high and the low half of the sum of 131,072 rotated words
 // The image to be read is the first bytes of a buffer (read.rt):
 //     zero 00000818                it is so many zero bytes
 //     edit 00000018 01020304       these bytes stand at this place of the buffer
@@ -41,6 +43,7 @@ use writer::Repeats;
 
 mod hex; // hex.rt: numbers and bytes written as hexadecimal digits
 mod read; // read.rt: lines about an image that is read
+mod rotations; // rotations.rt: lines about the rotation by table
 mod tags; // tags.rt: the four letters that lines begin with
 mod verdict; // verdict.rt: the counts of the verdicts
 mod words; // words.rt: a line's words
@@ -114,6 +117,12 @@ fn any_line(
         return Step {
             state: s,
             verdict: hashed(first, second, words::rest(words::rest(rest))),
+        };
+    }
+    if tag == tags::ROTA {
+        return Step {
+            state: s,
+            verdict: rotations::line(first, second, words::rest(words::rest(rest))),
         };
     }
     if tags::of_writer(tag) {

@@ -2,6 +2,8 @@
 
 pub(super) const HASH: u32 = 0x6861_7368;
 
+pub(super) const ROTA: u32 = 0x726f_7461;
+
 pub(super) const ZERO: u32 = 0x7a65_726f;
 
 pub(super) const EDIT: u32 = 0x6564_6974;

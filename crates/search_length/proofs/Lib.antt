@@ -3,4 +3,4 @@ pub mod Histogram
 pub mod Answers
 pub mod EntriesFound
 pub mod Theorem
-pub mod Rows
+pub mod ExampleRows

@@ -5,7 +5,7 @@ ghost use Rattle.reader.specs.Cases.{reads, lookupOf};
 ghost use Rattle.search_length.specs.steps.Contracts.{Bin, RaisePre, CountPre, Counted};
 use image::HEAD_SIZE;
 use image::entries::name_at;
-use image::size_at;
+use image::size_or_zero;
 use reader::ToId;
 
 // How many buckets a lookup's answer has read.
@@ -50,7 +50,7 @@ pub(super) fn count_lengths(image: &[u8], n: u32, counts: &mut [u32; 16]) -> u64
     let mut left = n;
     let mut sum: u64 = 0;
     while left > 0 {
-        let len = size_at(image, at + 4);
+        let len = size_or_zero(image, at + 4);
         let length = buckets(reader::to_id(image, name_at(image, at, len)));
         sum += length as u64;
         let k = bin_of(length);

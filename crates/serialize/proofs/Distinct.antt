@@ -20,7 +20,7 @@ use Rattle.image.proofs.Sizes.{length-entries, entriesSize-append, placed-appen
 use Rattle.image.proofs.AllOfList.{All, all-map, all-both, all-filter, all-image}
 use Rattle.image.proofs.At.{At}
 use Rattle.image.proofs.Parts.{placedIn}
-use Rattle.serialize.specs.steps.Insertion.{hashAt, entryInserted}
+use Rattle.serialize.specs.steps.Insertion.{entryHash, entryInserted}
 use Rattle.serialize.specs.steps.Partition.{pairsStored, tableFilled}
 use Rattle.serialize.specs.steps.Meeting.{nameIn, sameNames, Pairwise, OtherNames, Apart, Distinct, RowUnmet, UnmetFrom, TablesApart}
 use Rattle.serialize.proofs.Choices.{never-true}
@@ -146,7 +146,7 @@ module _ (mode : Mode) (es : List Entry) (tail : List ℕ) (small : imageSize mo
 
   pub singly-distinct : (rest qs : List Entry) → es ≡ qs ++ rest → Distinct qs
       → UnmetFrom mode (backOffset mode es) (entriesEnd es) (length rest) (headSize + entriesSize qs) (partial mode es qs ++ tail) → Distinct es
-  unfolding hashAt ofTable placed entriesSize
+  unfolding entryHash ofTable placed entriesSize
   singly-distinct [] qs split two told = subst Distinct (sym (split ∙ append-nil qs)) two
   singly-distinct (e ∷ rest) qs split two told =
       let at = headSize + entriesSize qs in
@@ -156,7 +156,7 @@ module _ (mode : Mode) (es : List Entry) (tail : List ℕ) (small : imageSize mo
       let n = length (e .name) + 1 in
       let p : Placed = record { entry = e; at = at } in
       let t = ownTable p in
-      let Both : ℕ → Type 0 = λ k. RowUnmet B end (hashAt B at k) at × UnmetFrom mode o end (length rest) (at + (8 + k)) (entryInserted mode o B at k) in
+      let Both : ℕ → Type 0 = λ k. RowUnmet B end (entryHash B at k) at × UnmetFrom mode o end (length rest) (at + (8 + k)) (entryInserted mode o B at k) in
       let both : Both n = subst Both (length-found mode es qs rest e tail split small ids) told in
       let row : RowUnmet B end (hashOf (e .name)) at =
       subst (λ (name : List ℕ). RowUnmet B end (hashOf name) at) (name-found mode es qs rest e tail split small ids) (both .0) in

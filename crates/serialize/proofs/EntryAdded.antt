@@ -133,24 +133,24 @@ module _ (rs : List Placed) (p : Placed) where
   unfolding placedOfId
   id-more i k e = filter-append (λ (q : Placed). hasId i (q .entry)) rs (p ∷ []) ∙ ap (λ (l : List Placed). placedOfId i rs ++ l) e
 
-  link-other : (i : ℕ) → (i ≡ p .entry .id → ⊥) → backWord rs i ≡ backWord (rs ++ p ∷ []) i
+  back-word-other : (i : ℕ) → (i ≡ p .entry .id → ⊥) → backWord rs i ≡ backWord (rs ++ p ∷ []) i
   unfolding backWord placedOfId filter
-  link-other i h =
+  back-word-other i h =
       let no : hasId i (p .entry) ≡ false = ne-eqb (p .entry .id) i (λ z. h (sym z)) in
       sym (ap (lastFrom 0) (id-more i [] (filter-no (λ (q : Placed). hasId i (q .entry)) p [] no) ∙ append-nil (placedOfId i rs)))
 
-  link-own : backWord (rs ++ p ∷ []) (p .entry .id) ≡ p .at
+  back-word-own : backWord (rs ++ p ∷ []) (p .entry .id) ≡ p .at
   unfolding backWord placedOfId filter
-  link-own =
+  back-word-own =
       let i = p .entry .id in
       ap (lastFrom 0) (id-more i (p ∷ []) (filter-yes (λ (q : Placed). hasId i (q .entry)) p [] (eq-eqb i i refl))) ∙ last-more 0 (placedOfId i rs) p
 
-  pub links-more : (n : ℕ) → p .entry .id < n → sets (backWords rs n) (4 * p .entry .id) (le32 (p .at)) ≡ backWords (rs ++ p ∷ []) n
+  pub back-words-more : (n : ℕ) → p .entry .id < n → sets (backWords rs n) (4 * p .entry .id) (le32 (p .at)) ≡ backWords (rs ++ p ∷ []) n
   unfolding backWords
-  links-more n h =
+  back-words-more n h =
       let i = p .entry .id in
       sets-run (λ (j : ℕ). le32 (backWord rs j)) (λ (j : ℕ). le32 (backWord (rs ++ p ∷ []) j)) (le32 (p .at)) n i 0 (4 * i) h
       (omega (arith, length-cat (λ (j : ℕ). le32 (backWord rs j)) 4 (λ j. length-le32 (backWord rs j)) (range 0 i), length-range 0 i))
       (omega (arith, length-le32 (p .at), length-le32 (backWord rs i)))
-      (over (backWord rs i) (p .at) ∙ ap le32 (sym link-own))
-      (λ j k. ap le32 (link-other j k))
+      (over (backWord rs i) (p .at) ∙ ap le32 (sym back-word-own))
+      (λ j k. ap le32 (back-word-other j k))

@@ -33,11 +33,11 @@ use Rattle.image.specs.steps.EntryLength.{wholeLength}
 use Rattle.image.specs.steps.Contracts.{offsetAt}
 use Rattle.lookup_laws.proofs.SlotSearch.{none-equal}
 use Rattle.serialize.specs.steps.Meeting.{sameNames, bucketAt, Unmet, RowUnmet}
-use Rattle.serialize.specs.steps.Insertion.{holdsTable, inserted, insertedByRow, hashAt, backStored, entryInserted}
+use Rattle.serialize.specs.steps.Insertion.{holdsTable, inserted, insertedByRow, entryHash, backStored, entryInserted}
 use Rattle.image.proofs.Between.{is-whole}
 use Rattle.serialize.proofs.PartialImage.{tableWith, tablesWith, length-tableWith, length-tablesWith, upToEntries, length-upToEntries, partial}
 use Rattle.serialize.proofs.PartialImage.{rows-there, tables-there, entries-from}
-use Rattle.serialize.proofs.EntryAdded.{place, place-below, tables-more, links-more, Words, bucket-read}
+use Rattle.serialize.proofs.EntryAdded.{place, place-below, tables-more, back-words-more, Words, bucket-read}
 
 -- ---- the entry at the front of the bytes of entries is whole
 
@@ -105,7 +105,7 @@ linked Twoway es rs p front tail n h =
     (ne-eqb size 0 (λ z. omega arith))
     ∙ store-in front (backWords rs size) tail (le32 (p .at)) (entriesEnd es + 16 * length es + 4 * i) (4 * i) (omega arith)
     (omega (arith, length-backWords rs size, length-le32 (p .at)))
-    ∙ ap (λ (l : List ℕ). front ++ l ++ tail) (links-more rs p size h)
+    ∙ ap (λ (l : List ℕ). front ++ l ++ tail) (back-words-more rs p size h)
 linked Oneway es rs p front tail n h = refl
 
 -- ---- the entry among the others
@@ -333,7 +333,7 @@ module _ (mode : Mode) (es qs rest : List Entry) (e : Entry) (tail : List ℕ) (
 
   pub step : entryInserted mode (backOffset mode es) (partial mode es qs ++ tail) (headSize + entriesSize qs) (length (e .name) + 1)
       ≡ partial mode es (qs ++ e ∷ []) ++ tail
-  unfolding entryInserted hashAt partial B ps rs p U
+  unfolding entryInserted entryHash partial B ps rs p U
   step =
       let at = headSize + entriesSize qs in
       let L = backWords rs (backSizeOf mode es) in

@@ -20,7 +20,7 @@ use Rattle.image.specs.Tables.{start, probeSequence, firstEmpty}
 use Rattle.image.specs.steps.EntryLength.{wholeLength}
 use Rattle.image.specs.steps.Contracts.{BucketIs, offsetAt}
 use Rattle.image.proofs.Bools.{false-not-true, or-false-first, or-false-second}
-use Rattle.serialize.specs.steps.Insertion.{holdsTable, inserted, insertedByRow, EntryPre, hashAt}
+use Rattle.serialize.specs.steps.Insertion.{holdsTable, inserted, insertedByRow, EntryPre, entryHash}
 use Rattle.serialize.specs.steps.Insertion.{backStored, entryInserted, InsertEntriesPre, insertedFrom}
 use Rattle.serialize.specs.steps.Meeting.{nameIn, Unmet, ProbePre, Probed, PairInserted, RowUnmet, RowInserted, EntryInserted, UnmetFrom}
 use Rattle.serialize.specs.steps.Meeting.{EntriesInserted, SinglyDone}
@@ -98,7 +98,7 @@ module _ (buf : List ℕ) (h at : ℕ) {o n : ℕ} {b : Bool} (is-o : o ≡ word
 -- ---- an entry
 
 pub entry-inserted : (mode : Mode) (back-offset : ℕ) (buf : List ℕ) (end at n : ℕ) {id h : ℕ} {b1 b2 : List ℕ} {met : Bool} → id ≡ word buf at
-    → h ≡ hashAt buf at n → RowInserted buf end h at b1 met → b2 ≡ backStored mode b1 back-offset id at → EntryInserted mode back-offset buf end at n b2 met
+    → h ≡ entryHash buf at n → RowInserted buf end h at b1 met → b2 ≡ backStored mode b1 back-offset id at → EntryInserted mode back-offset buf end at n b2 met
 unfolding entryInserted
 entry-inserted mode back-offset buf end at n ei eh p q =
     record {
@@ -141,7 +141,7 @@ module _ {mode : Mode} {back-offset end entries : ℕ} {buf₀ buf : List ℕ} {
 
     -- the first meets none, and then the others
     abbrev Both : ℕ → Type 0
-    Both k = RowUnmet buf end (hashAt buf at k) at × UnmetFrom mode back-offset end (left - 1) (at + (8 + k)) (entryInserted mode back-offset buf at k)
+    Both k = RowUnmet buf end (entryHash buf at k) at × UnmetFrom mode back-offset end (left - 1) (at + (8 + k)) (entryInserted mode back-offset buf at k)
 
     unmet-next : met ≡ false → Both n → UnmetFrom mode back-offset end entries 2072 buf₀
     unmet-next z two =

@@ -129,13 +129,13 @@ zeros-tables : (ps : List Placed) → Zeros (tablesWith ps [])
 unfolding tablesWith tableWith ofTable filter filled insertAll
 zeros-tables ps = zeros-cat (bucketsOf (tableWith ps [])) (λ t. zeros-buckets (2 * count t ps)) (range 0 256)
 
-pub zeros-links : (n : ℕ) → Zeros (backWords [] n)
+pub zeros-back-words : (n : ℕ) → Zeros (backWords [] n)
 unfolding backWords backWord placedOfId filter lastFrom le32
-zeros-links n = zeros-cat (λ (i : ℕ). le32 (backWord [] i)) (λ i. refl) (range 0 n)
+zeros-back-words n = zeros-cat (λ (i : ℕ). le32 (backWord [] i)) (λ i. refl) (range 0 n)
 
 pub zeros-both : (ps : List Placed) (n m : ℕ) → m ≡ 16 * length ps + 4 * n → replicate m 0 ≡ tablesWith ps [] ++ backWords [] n
 zeros-both ps n m e =
     let T = tablesWith ps [] in
     let L = backWords [] n in
     let size : m ≡ length (T ++ L) = omega (arith, length-append T L, length-tablesWith ps [], length-backWords [] n) in
-    ap (λ (k : ℕ). replicate k 0) size ∙ sym (zeros-append T L (zeros-tables ps) (zeros-links n))
+    ap (λ (k : ℕ). replicate k 0) size ∙ sym (zeros-append T L (zeros-tables ps) (zeros-back-words n))

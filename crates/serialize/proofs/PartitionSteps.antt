@@ -16,7 +16,7 @@ use Rattle.image.proofs.Between.{take-sets}
 use Rattle.image.specs.declared.Mode.{Mode}
 use Rattle.image.specs.Stored.{between}
 use Rattle.image.specs.steps.EntryLength.{wholeLength}
-use Rattle.serialize.specs.steps.Insertion.{hashAt, backStored}
+use Rattle.serialize.specs.steps.Insertion.{entryHash, backStored}
 use Rattle.serialize.specs.steps.Partition.{tableOffsetsFrom, pairPut, advanced, PairAppended, partitioned, EntryPartitioned, partitionedFrom}
 use Rattle.serialize.specs.steps.Partition.{pairsStored, tableFilled, tablesFrom}
 use Rattle.serialize.specs.steps.Meeting.{Apart, TablesApart}
@@ -71,7 +71,7 @@ module _ {mode : Mode} {back-offset end entries : ℕ} {places₀ buf₀ places 
     (inv : Partitioning mode back-offset end entries places₀ buf₀ places buf at left) where
   abbrev from : ℕ → List ℕ
   from n =
-      let h = hashAt buf at n in
+      let h = entryHash buf at n in
       partitionedFrom mode back-offset end (left - 1) (at + (8 + n)) (advanced places h) (partitioned mode back-offset places buf at (word buf at) h)
 
   module _ {n : ℕ} (more : 0 < left) (is : n ≡ wholeLength (between buf at end)) where
@@ -85,7 +85,7 @@ module _ {mode : Mode} {back-offset end entries : ℕ} {places₀ buf₀ places 
     partitioned-broken z = sym (ap (λ (b : Bool). cond b buf (from n)) (eq-eqb n 0 z)) ∙ next
 
     pub partitioned-step : (n ≡ 0 → ⊥) → at + (8 + n) ≤ end → (places′ buf′ : List ℕ) → length buf′ ≡ length buf → {id h : ℕ} → id ≡ word buf at
-        → h ≡ hashAt buf at n → EntryPartitioned mode back-offset at id h places buf places′ buf′
+        → h ≡ entryHash buf at n → EntryPartitioned mode back-offset at id h places buf places′ buf′
         → Partitioning mode back-offset end entries places₀ buf₀ places′ buf′ (at + (8 + n)) (left - 1)
     partitioned-step some before places′ buf′ same {id} {h} ei eh done = record {
       inside = before;

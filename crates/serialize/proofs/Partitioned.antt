@@ -25,7 +25,7 @@ use Rattle.image.proofs.AllOfList.{All}
 use Rattle.image.proofs.At.{At, at-same, at-right}
 use Rattle.image.proofs.Parts.{placedIn, before-most}
 use Rattle.image.proofs.EntryAt.{id-word}
-use Rattle.serialize.specs.steps.Insertion.{hashAt, backStored}
+use Rattle.serialize.specs.steps.Insertion.{entryHash, backStored}
 use Rattle.serialize.specs.steps.Partition.{pairPut, advanced, partitioned, partitionedFrom, tableOffsetsFrom}
 use Rattle.serialize.proofs.HeadRows.{Counts}
 use Rattle.serialize.proofs.PartialImage.{upToEntries, length-upToEntries, entries-after}
@@ -225,8 +225,8 @@ module _ (mode : Mode) (es : List Entry) (X tail : List ℕ) (long : length X �
         length-there (headSize + entriesSize qs) e rest from-here (entriesEnd es) (ends-there mode es qs rest e tail split fits ids)
         (name-short mode es qs rest e tail split fits ids)
 
-    half-hash : hashAt (halfway mode U es X qs tail) (headSize + entriesSize qs) (length (e .name) + 1) ≡ hashOf (e .name)
-    unfolding hashAt
+    half-hash : entryHash (halfway mode U es X qs tail) (headSize + entriesSize qs) (length (e .name) + 1) ≡ hashOf (e .name)
+    unfolding entryHash
     half-hash = ap hashOf (name-there (headSize + entriesSize qs) e rest from-here)
 
     half-id : word (halfway mode U es X qs tail) (headSize + entriesSize qs) ≡ e .id
@@ -248,8 +248,8 @@ module _ (mode : Mode) (es : List Entry) (X tail : List ℕ) (long : length X �
       let h = hashOf (e .name) in
       let m = length rest in
       let later : ℕ → ℕ → ℕ → List ℕ = λ k i x. partitionedFrom mode o end m (at + (8 + k)) (advanced places x) (partitioned mode o places H at i x) in
-      ap (λ (k : ℕ). cond (eqb k 0) H (later k (word H at) (hashAt H at k))) (half-length qs rest e split fits ids)
-      ∙ ap (λ (b : Bool). cond b H (later n (word H at) (hashAt H at n))) (ne-eqb n 0 (λ z. omega arith))
+      ap (λ (k : ℕ). cond (eqb k 0) H (later k (word H at) (entryHash H at k))) (half-length qs rest e split fits ids)
+      ∙ ap (λ (b : Bool). cond b H (later n (word H at) (entryHash H at n))) (ne-eqb n 0 (λ z. omega arith))
       ∙ ap₂ (λ (i x : ℕ). later n i x) (half-id qs rest e split fits ids) (half-hash qs rest e split fits ids)
       ∙ ap (λ (l : List ℕ). partitionedFrom mode o end m (at + (8 + n)) (advanced places h) l)
       (half-step mode U es X tail (length-upToEntries mode es) long qs rest e split fits ids places next)

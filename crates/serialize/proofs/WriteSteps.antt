@@ -40,8 +40,8 @@ module _ (mode : Mode) (end entries back : ℕ) where
   unfolding headed
   headed-parts counts buf b1 b2 n f k l en ef ek el p q =
       let size = finishedOf mode end entries back in
-      let links = backOffsetOf mode end entries back in
-      let first : b1 ≡ sets buf 0 (headBytes size (flagWord mode) (backIn mode back) links) =
+      let back-at = backOffsetOf mode end entries back in
+      let first : b1 ≡ sets buf 0 (headBytes size (flagWord mode) (backIn mode back) back-at) =
       p ∙ ap (λ (x : ℕ). sets buf 0 (headBytes x f k l)) en ∙ ap (λ (x : ℕ). sets buf 0 (headBytes size x k l)) ef
       ∙ ap₂ (λ (x : ℕ) (y : ℕ). sets buf 0 (headBytes size (flagWord mode) x y)) ek el in
       q ∙ ap (λ (x : List ℕ). sets x 24 (rowsFrom counts end 0 256)) first

@@ -9,6 +9,14 @@ ghost use Rattle.image.specs.Image.{headBytes};
 ghost use Rattle.serialize.specs.steps.Contracts.{AsU64, ClearBytesPre};
 ghost use Rattle.serialize.specs.steps.Written.{RowsWritten};
 use image::BYTEORDER_CHECK;
+use image::head::BACK_OFFSET_AT;
+use image::head::BACK_SIZE_AT;
+use image::head::BUCKET_NUMBERS_AT;
+use image::head::BYTEORDER_AT;
+use image::head::FLAG_AT;
+use image::head::ROW_SIZE;
+use image::head::SIZE_AT;
+use image::head::TABLE_OFFSETS_AT;
 use image::store::store_word;
 
 // The letters CQDB as a word.
@@ -18,12 +26,12 @@ const CHUNK_ID: u32 = 0x42445143;
 pub(super) fn write_head(buf: &mut [u8], size: u32, flag: u32, back: u32, back_offset: u32)
     ensures { λ _. ⌜ now (buf .exit) ≡ sets (now (buf .entry)) 0 (headBytes size flag back «back_offset») ⌝ }
 {
-    image::put_u32(&mut *buf, 0, CHUNK_ID);
-    image::put_u32(&mut *buf, 4, size);
-    image::put_u32(&mut *buf, 8, flag);
-    image::put_u32(&mut *buf, 12, BYTEORDER_CHECK);
-    image::put_u32(&mut *buf, 16, back);
-    image::put_u32(&mut *buf, 20, back_offset);
+    image::store_word_clipped(&mut *buf, 0, CHUNK_ID);
+    image::store_word_clipped(&mut *buf, SIZE_AT, size);
+    image::store_word_clipped(&mut *buf, FLAG_AT, flag);
+    image::store_word_clipped(&mut *buf, BYTEORDER_AT, BYTEORDER_CHECK);
+    image::store_word_clipped(&mut *buf, BACK_SIZE_AT, back);
+    image::store_word_clipped(&mut *buf, BACK_OFFSET_AT, back_offset);
 }
 
 // The low 32 bits of a number.
@@ -41,7 +49,7 @@ pub(super) fn as_u64(x: u32) -> u64
 }
 
 // A table's offset: 0 without entries, otherwise where the tables written so far end.
-fn row_offset(count: u64, o: u64) -> u64
+fn offset_or_zero(count: u64, o: u64) -> u64
     ensures { λ r. ⌜ r ≡ cond (eqb count 0) 0 o ⌝ }
 {
     if count == 0 { 0 } else { o }
@@ -60,8 +68,12 @@ pub(super) fn write_rows(buf: &mut [u8], counts: &[u32; 256], end: u32, places: 
     let mut t = 0;
     while t < 256 {
         let count = as_u64(counts[t]);
-        store_word(&mut *buf, 24 + 8 * t, low(row_offset(count, o)));
-        store_word(&mut *buf, 28 + 8 * t, low(2 * count));
+        store_word(
+            &mut *buf,
+            TABLE_OFFSETS_AT + ROW_SIZE * t,
+            low(offset_or_zero(count, o)),
+        );
+        store_word(&mut *buf, BUCKET_NUMBERS_AT + ROW_SIZE * t, low(2 * count));
         places[t] = low(o);
         o += 16 * count;
         t += 1;

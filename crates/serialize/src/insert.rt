@@ -7,7 +7,7 @@ ghost use lib.Seq.{sets};
 ghost use Rattle.image.specs.Bytes.{le32};
 ghost use mathlib.Core.Bool.{false};
 ghost use Rattle.serialize.specs.steps.Insertion.{holdsTable, HoldsTablePre};
-ghost use Rattle.serialize.specs.steps.Insertion.{backStored, hashAt, EntryPre, InsertEntryPre};
+ghost use Rattle.serialize.specs.steps.Insertion.{backStored, entryHash, EntryPre, InsertEntryPre};
 ghost use Rattle.serialize.specs.steps.Insertion.{InsertEntriesPre};
 ghost use Rattle.serialize.specs.steps.Meeting.{sameNames, ProbePre, Probed, PairInserted, RowInserted};
 ghost use Rattle.serialize.specs.steps.Meeting.{EntryInserted, EntriesInserted};
@@ -178,15 +178,15 @@ pub fn store_back(mode: Mode, buf: &mut [u8], back_offset: usize, id: u32, at: u
     ensures { λ _. ⌜ now (buf .exit) ≡ backStored mode (now (buf .entry)) «back_offset» id at ⌝ }
 {
     match mode {
-        Mode::Twoway => image::put_u32(&mut *buf, back_offset + 4 * (id as usize), at),
+        Mode::Twoway => image::store_word_clipped(&mut *buf, back_offset + 4 * (id as usize), at),
         Mode::Oneway => {}
     }
 }
 
 // The hash of the name of the entry at `at`, whose length word is n.
-pub(super) fn hash_at(buf: &[u8], at: usize, n: usize) -> u32
+pub(super) fn entry_hash(buf: &[u8], at: usize, n: usize) -> u32
     requires { ⌜ EntryPre at n (now buf) ⌝ }
-    ensures { λ r. ⌜ r ≡ hashAt (now (buf .entry)) at n ⌝ }
+    ensures { λ r. ⌜ r ≡ entryHash (now (buf .entry)) at n ⌝ }
 {
     jhash::hash_or_zero(name_at(buf, at, n))
 }
@@ -204,8 +204,8 @@ fn insert_entry(
     requires { ⌜ InsertEntryPre «back_offset» end at n (now buf) ⌝ }
     ensures { λ r. ⌜ EntryInserted mode «back_offset» (now (buf .entry)) end at n (now (buf .exit)) r ⌝ }
 {
-    let id = image::get_u32(&*buf, at);
-    let h = hash_at(&*buf, at, n);
+    let id = image::word_or_zero(&*buf, at);
+    let h = entry_hash(&*buf, at, n);
     let met = insert_by_row(&mut *buf, end, h, at as u32);
     store_back(mode, &mut *buf, back_offset, id, at as u32);
     met

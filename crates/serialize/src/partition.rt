@@ -3,7 +3,7 @@ ghost use mathlib.Core.Path.{_≡_};
 ghost use Prim.Native.Nat.{_<_};
 ghost use Rattle.serialize.specs.steps.Insertion.{InsertEntriesPre};
 ghost use Rattle.serialize.specs.steps.Partition.{pairPut, PairAppended, EntryPartitioned, partitionedFrom};
-use super::insert::hash_at;
+use super::insert::entry_hash;
 use super::insert::store_back;
 use super::insert::store_pair;
 use image::HEAD_SIZE;
@@ -73,8 +73,8 @@ pub(super) fn partition_entries(
         if n == 0 {
             return;
         }
-        let id = image::get_u32(&*buf, at);
-        let h = hash_at(&*buf, at, n);
+        let id = image::word_or_zero(&*buf, at);
+        let h = entry_hash(&*buf, at, n);
         partition_entry(mode, back_offset, &mut *buf, &mut *places, at as u32, id, h);
         at += 8 + n;
         left -= 1;

@@ -6,4 +6,4 @@ pub mod Files
 pub mod Parts
 pub mod SheetStored
 pub mod Theorem
-pub mod Rows
+pub mod ExampleRows

@@ -126,7 +126,7 @@ pub fn id_at(part: &[u8], i: usize) -> u32
     ensures { λ r. ⌜ r ≡ getD (idsIn (now (part .entry))) i 0 ⌝ }
 {
     if i < part.len() / 4 {
-        image::get_u32(part, 4 * i)
+        image::word_or_zero(part, 4 * i)
     } else {
         0
     }

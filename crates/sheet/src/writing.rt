@@ -16,7 +16,7 @@ fn put_ids(buf: &mut [u8], at: usize, ids: &[u32])
 {
     let mut i = 0;
     while i < ids.len() {
-        image::put_u32(&mut *buf, at + 4 * i, ids[i]);
+        image::store_word_clipped(&mut *buf, at + 4 * i, ids[i]);
         i += 1;
     }
 }

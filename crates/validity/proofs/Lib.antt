@@ -5,4 +5,4 @@ pub mod WindowTests
 pub mod WindowLaws
 pub mod OverWindows
 pub mod Theorem
-pub mod Rows
+pub mod ExampleRows

@@ -16,7 +16,7 @@ use Rattle.writer.specs.declared.CQDBWriter.{CQDBWriter}
 use Rattle.writer.specs.declared.Repeats.{Repeats}
 use Rattle.writer.specs.declared.Repeats.the-variants.{Off, On}
 use Rattle.writer.specs.State.{State, stateWith}
-use Rattle.writer.specs.Numbers.{known, modeOf, repeatsOf, repeatsWord}
+use Rattle.writer.specs.Numbers.{validNumbers, modeOf, repeatsOf, repeatsWord}
 use Rattle.writer.specs.declared.c_record.Record.{Record}
 use Rattle.writer.specs.CRecord.{writerOf, recordOf, recordIn, CState, cState, knownIn, stateIn, cStateOf}
 
@@ -53,7 +53,7 @@ back-and-forth h fine =
 pub cState-known : (s : State) → knownIn (cStateOf s) ≡ true
 cState-known s = by-cases (s .writer .mode) (s .writer .repeats)
   where
-    by-cases : (mode : Mode) (repeats : Repeats) → known (flagWord mode) (repeatsWord repeats) ≡ true
+    by-cases : (mode : Mode) (repeats : Repeats) → validNumbers (flagWord mode) (repeatsWord repeats) ≡ true
     by-cases Twoway Off = refl
     by-cases Twoway On = refl
     by-cases Oneway Off = refl
@@ -76,7 +76,7 @@ forth-and-back s =
     (mode-back (w .mode))
     (repeats-back (w .repeats))
 
-pub known-back : (r : Record) → known (r .mode) (r .repeats) ≡ true → recordOf (writerOf r) ≡ r
+pub known-back : (r : Record) → validNumbers (r .mode) (r .repeats) ≡ true → recordOf (writerOf r) ≡ r
 known-back r fine = ap (λ (x : CState). x .writer) (back-and-forth (cState r [] []) fine)
 
 -- ---- a record in place
@@ -116,7 +116,7 @@ pub record Stay (v w : CQDBWriter) : Type 0 where
   pub choices : w .repeats ≡ v .repeats
   pub lengths : w .length ≡ v .length
 
-pub whole-stored : (r : Record) (w : CQDBWriter) → known (r .mode) (r .repeats) ≡ true → Stay (writerOf r) w → recordAfter r w ≡ recordOf w
+pub whole-stored : (r : Record) (w : CQDBWriter) → validNumbers (r .mode) (r .repeats) ≡ true → Stay (writerOf r) w → recordAfter r w ≡ recordOf w
 whole-stored r w fine stay =
     let back = known-back r fine in
     λ i. record {

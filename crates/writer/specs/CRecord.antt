@@ -6,7 +6,7 @@ use lib.ListN.{getD}
 use Rattle.image.specs.Image.{flagWord}
 use Rattle.writer.specs.declared.CQDBWriter.{CQDBWriter}
 use Rattle.writer.specs.State.{State, stateWith}
-use Rattle.writer.specs.Numbers.{known, modeOf, repeatsOf, repeatsWord}
+use Rattle.writer.specs.Numbers.{validNumbers, modeOf, repeatsOf, repeatsWord}
 use Rattle.writer.specs.declared.c_record.Record.{Record}
 
 -- the writer record that C's stands for, and the other way round
@@ -65,4 +65,4 @@ cStateOf s = cState (recordOf (s .writer)) (s .counts) (s .buffer)
 
 -- is a lent record one of 01's?
 abbrev pub knownIn : CState → Bool
-knownIn h = known (h .writer .mode) (h .writer .repeats)
+knownIn h = validNumbers (h .writer .mode) (h .writer .repeats)

@@ -8,9 +8,9 @@ use Rattle.writer.specs.declared.Repeats.{Repeats}
 use Rattle.writer.specs.declared.Repeats.the-variants.{Off, On}
 
 -- a mode is 0, two-way, or 1, one-way, as the flag word; the choice of repeats (02 (viii)) is 0, off, or 1, on. A
--- record with another number is none of 01's
-abbrev pub known : ℕ → ℕ → Bool
-known mode repeats = leb mode 1 && leb repeats 1
+-- record with another number is no record of 01
+abbrev pub validNumbers : ℕ → ℕ → Bool
+validNumbers mode repeats = leb mode 1 && leb repeats 1
 
 abbrev pub modeOf : ℕ → Mode
 modeOf mode = cond (eqb mode 0) Twoway Oneway

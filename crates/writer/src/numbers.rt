@@ -2,11 +2,11 @@
 use super::Repeats;
 use image::Mode;
 ghost use mathlib.Core.Path.{_≡_};
-ghost use Rattle.writer.specs.Numbers.{known, modeOf, repeatsOf, repeatsWord};
+ghost use Rattle.writer.specs.Numbers.{validNumbers, modeOf, repeatsOf, repeatsWord};
 
 // Whether both numbers stand for something: 0 or 1.
-pub fn known(mode: u32, repeats: u32) -> bool
-    ensures { λ r. ⌜ r ≡ known mode repeats ⌝ }
+pub fn valid_numbers(mode: u32, repeats: u32) -> bool
+    ensures { λ r. ⌜ r ≡ validNumbers mode repeats ⌝ }
 {
     mode <= 1 && repeats <= 1
 }

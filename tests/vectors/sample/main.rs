@@ -1,6 +1,6 @@
 // Writes a stored sample of the original's answers: `writing`, what the Rust's writer makes of lists of puts whose names have
 // no zero byte, or `reading`, what its reader answers on images of such lists, also with zero bytes in names, and on damaged
-// copies of them. The lines are those that the program replay reads.
+// copies of them; or `rotating`, what Rust's own rotate_left gives. The lines are those that the program replay reads.
 mod damage;
 #[path = "../../../target/oracle/src/hash.rs"]
 mod hash;
@@ -121,6 +121,19 @@ fn reading(lists: &[List], names: &Names, random: &mut Random) {
     eprintln!("sample: {} answers on {images} images and {damaged} damaged ones", questions.asked);
 }
 
+// For each amount the sum of all rotated words, its high and its low half.
+fn rotating() {
+    println!("# Rotations by Rust's own rotate_left.");
+    for k in 0..32 {
+        let (mut x, mut sum) = (0u32, 0u64);
+        for _ in 0..131_072 {
+            sum += u64::from(x.rotate_left(k));
+            x = x.wrapping_mul(1_664_525).wrapping_add(1_013_904_223);
+        }
+        println!("rota {k:08x} {:08x} {:08x}", sum >> 32, sum & 0xffff_ffff);
+    }
+}
+
 fn main() {
     let names = Names::new();
     let mut random = Random(20170401);
@@ -128,6 +141,7 @@ fn main() {
     match std::env::args().nth(1).as_deref() {
         Some("writing") => writing(&lists),
         Some("reading") => reading(&lists, &names, &mut random),
-        _ => panic!("which sample? writing or reading"),
+        Some("rotating") => rotating(),
+        _ => panic!("which sample? writing, reading or rotating"),
     }
 }

@@ -4,7 +4,7 @@ use native.Mathlib.Omega.{arith}
 use mathlib.Core.List.{List}
 use lib.ListN.{length, length-replicate}
 use borrow.Author.Needs.{needs}
-use Rattle.packed.proofs.NameEnds.{length-names}
+use Rattle.image.proofs.NameEnds.{length-names}
 use Rattle.batch.specs.RoundNames.{names}
 use Rattle.batch.specs.steps.Duplicates.{HashedNames}
 use Rattle.batch.specs.steps.Answers.{UniqueAnswered, EqualsPre}

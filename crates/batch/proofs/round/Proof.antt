@@ -8,7 +8,7 @@ use borrow.Author.Tests.{lt-ltb, le-ltb}
 use borrow.Author.Needs.{needs}
 use lib.ListN.{length, drop, length-take}
 use Rattle.jhash.specs.Outcome.{Outcome, value, refusal}
-use Rattle.packed.proofs.NameEnds.{length-names}
+use Rattle.image.proofs.NameEnds.{length-names}
 use Rattle.batch.specs.RoundNames.{names, invalidEnds}
 use Rattle.batch.specs.Round.{roundWords, roundBuckets, roundOutcome, leftBy, afterRound}
 use Rattle.batch.proofs.RoundAnswers.{outcome-by, left}

@@ -4,7 +4,7 @@ use mathlib.Core.Path.{_≡_, refl, sym, _∙_}
 use mathlib.Core.Bool.{false}
 use lib.ListN.{length}
 use borrow.Author.Needs.{needs}
-use Rattle.packed.specs.Names.{invalidEnds}
+use Rattle.image.specs.PackedNames.{invalidEnds}
 use Rattle.build.specs.Build.{madeOf}
 use Rattle.build.proofs.Whole.{refusal-14, refusal-15, refusal-15-places, refusal-1, refusal-none, refused-build}
 use Rattle.build.proofs.build.Statement.{statement}

@@ -7,7 +7,7 @@ use mathlib.Core.List.{List}
 use lib.ListN.{length, getD, drop, replicate, length-replicate}
 use lib.Seq.{length-take-le, drop-at}
 use borrow.Author.Needs.{needs}
-use Rattle.packed.proofs.NameEnds.{begin-later, placed}
+use Rattle.image.proofs.NameEnds.{begin-later, placed}
 use Rattle.serialize.specs.steps.Meeting.{Distinct}
 use Rattle.writer.specs.State.{refusesRepeats}
 use Rattle.build.specs.steps.Stores.{listEntries, NoZeros}

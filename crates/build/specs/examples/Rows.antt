@@ -1,4 +1,4 @@
--- Worked examples of a whole list: names joined with their ends, ids, and what the call gives in every buffer of that
+-- Worked examples of a whole list: packed names with their ends, ids, and what the call gives in every buffer of that
 -- length.
 use Prim.Native.Nat.{ℕ}
 use mathlib.Core.Path.{_≡_}

@@ -4,7 +4,7 @@ use mathlib.Core.Path.{_≡_}
 use mathlib.Core.List.{List}
 use lib.ListN.{length, take}
 use Rattle.image.specs.declared.Mode.{Mode}
-use Rattle.packed.specs.Names.{beginOf}
+use Rattle.image.specs.PackedNames.{beginOf}
 use Rattle.build.specs.Needs.{idsBack, bytesNeeded}
 
 -- r is the largest of these ids plus 1, 0 without any

@@ -6,7 +6,7 @@ use mathlib.Core.List.{List, _++_}
 use lib.ListN.{length, getD, take, drop}
 use Rattle.image.specs.Image.{Entry, headSize, imageSize}
 use Rattle.image.specs.declared.Mode.{Mode}
-use Rattle.packed.specs.Names.{invalidEnds}
+use Rattle.image.specs.PackedNames.{invalidEnds}
 use Rattle.writer.specs.declared.CQDBWriter.{CQDBWriter}
 use Rattle.writer.specs.declared.Repeats.{Repeats}
 use Rattle.writer.specs.State.{State, stateWith, fresh}

@@ -8,7 +8,7 @@ use Rattle.jhash.specs.NameHash.{hashOf}
 use Rattle.image.specs.Zero.{hasZero}
 use Rattle.image.specs.Image.{Entry, headSize, placed, count, imageSize, image}
 use Rattle.image.specs.declared.Mode.{Mode}
-use Rattle.packed.specs.Names.{names, nth, invalidEnds}
+use Rattle.image.specs.PackedNames.{names, nth, invalidEnds}
 use Rattle.serialize.specs.steps.Meeting.{Distinct}
 use Rattle.build.specs.steps.Capacity.{Capacity}
 use Rattle.build.specs.steps.Steps.{entriesListed, ListPre, KeptBehind}

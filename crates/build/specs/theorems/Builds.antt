@@ -10,7 +10,7 @@ use Rattle.image.specs.Image.{headSize, imageSize}
 use Rattle.writer.specs.declared.Repeats.{Repeats}
 use Rattle.lists.specs.Calls.{puts, WordIds}
 use Rattle.lists.specs.Demand3.{CallsAnswered, OneList}
-use Rattle.packed.specs.Names.{packedBytes}
+use Rattle.image.specs.PackedNames.{packedBytes}
 use Rattle.build.specs.Build.{callsOf, listed, building, BufferBuilt, answersAfter}
 use Rattle.build.specs.Needs.{atMost, bytesNeeded}
 

@@ -5,7 +5,7 @@ use mathlib.Core.Bool.{false}
 use mathlib.Core.List.{List}
 use lib.ListN.{length, getD}
 use Rattle.image.specs.declared.Mode.{Mode}
-use Rattle.packed.specs.Names.{invalidEnds, packedBytes}
+use Rattle.image.specs.PackedNames.{invalidEnds, packedBytes}
 use Rattle.writer.specs.declared.Repeats.{Repeats}
 use Rattle.lists.specs.Calls.{sizeOf, puts, WordIds}
 use Rattle.lists.specs.Demand3.{answersOf}

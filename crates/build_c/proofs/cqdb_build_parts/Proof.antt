@@ -14,10 +14,10 @@ use Rattle.build_c.proofs.cqdb_build_parts.Tie as tie
 
 -- ---- places in the code, each told from a later one
 
-abbrev begun : tie.After-known → tie.Start
+abbrev begun : tie.After-valid-numbers → tie.Start
 begun c = c .before .before .before .before .before .before .before
 
-abbrev accepted : tie.After-mode-of → tie.After-known
+abbrev accepted : tie.After-mode-of → tie.After-valid-numbers
 accepted c = c .before .before
 
 abbrev moded : tie.After-build → tie.After-mode-of
@@ -44,7 +44,7 @@ module _ (c : tie.After-build) where
       let m = moded c .mode-of in
       let r = c .before .before .before .before .repeats-of in
       let a = start .args in
-      let fine = sym (accepted (moded c) .known .ensures) ∙ not-false _ (moded c .before .if1 .left) in
+      let fine = sym (accepted (moded c) .valid-numbers .ensures) ∙ not-false _ (moded c .before .if1 .left) in
       known-build (a .mode) (a .repeats) (a .buf .now) (a .names .now) (a .ends .now) (a .ids .now) (a .refusals .now) fine (m .result) (r .result)
       (m .ensures) (r .ensures) (builtOf (c .build .result)) _ _ (promised .answer) (promised .leaves) (promised .answers)
 
@@ -52,7 +52,7 @@ returns : tie.Need-returns
 returns c =
     let a = begun (c .before) .args in
     let out = unknown-build (a .mode) (a .repeats) (a .buf .now) (a .names .now) (a .ends .now) (a .ids .now) (a .refusals .now)
-    (sym (c .before .known .ensures) ∙ not-true _ (c .if1 .taken)) in
+    (sym (c .before .valid-numbers .ensures) ∙ not-true _ (c .if1 .taken)) in
     (out .0, (out .1, (out .2, λ h. refl)))
 
 -- the call, from the words that it leaves

@@ -1,4 +1,4 @@
--- The postcondition of `size_at`, as a record whose fields are its parts.
+-- The postcondition of `image_size_at`, as a record whose fields are its parts.
 use Prim.Native.Nat.{ℕ, _+_, _≤_}
 use mathlib.Core.Path.{_≡_}
 use mathlib.Core.Bool.{cond}

@@ -31,14 +31,14 @@ image c = start c .args .image .now
 rows : (c : tie.Else1) → rowsOk (image c) (start c .args .end) 0 256 ≡ true
 rows c = sym (c .before .check-rows .ensures) ∙ not-false _ (c .if1 .left)
 
-two : (c : tie.After-get-u32) → eqb (c .get-u32 .result) 0 ≡ twoWay (image (c .before))
-two c = ap (λ (w : ℕ). eqb w 0) (c .get-u32 .ensures)
+two : (c : tie.After-word-or-zero) → eqb (c .word-or-zero .result) 0 ≡ twoWay (image (c .before))
+two c = ap (λ (w : ℕ). eqb w 0) (c .word-or-zero .ensures)
 
 -- the check of the entries, and its answer
 abbrev checked : tie.Else2 → tie.After-check-entries
 checked c = c .before .before
 
-abbrev flagged : tie.After-check-entries → tie.After-get-u32
+abbrev flagged : tie.After-check-entries → tie.After-word-or-zero
 flagged c = c .before .before
 
 abbrev Entries : tie.Else1 → Bool

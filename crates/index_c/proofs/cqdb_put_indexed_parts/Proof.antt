@@ -4,7 +4,7 @@ use mathlib.Core.Bool.{Bool}
 use borrow.Author.Tests.{not-true, not-false}
 use Rattle.writer.specs.Put.{entryOf}
 use Rattle.writer.specs.declared.c_record.Record.{Record}
-use Rattle.writer.specs.Numbers.{known}
+use Rattle.writer.specs.Numbers.{validNumbers}
 use Rattle.writer.specs.CRecord.{writerOf, CState, lentState, knownIn}
 use Rattle.writer.proofs.CRecords.{record-stored}
 use Rattle.index_c.proofs.IndexCalls.{put-unknown, put-stored}
@@ -13,14 +13,14 @@ use Rattle.index_c.proofs.cqdb_put_indexed_parts.Statement.{statement}
 use Rattle.index_c.proofs.cqdb_put_indexed_parts.Tie as tie
 
 -- what was lent, and whether its modes are known
-abbrev begun : tie.After-known → tie.Start
+abbrev begun : tie.After-valid-numbers → tie.Start
 begun k = k .before .before .before .before .before .before .before
 
-abbrev H : tie.After-known → CState
+abbrev H : tie.After-valid-numbers → CState
 H k = let a = begun k .args in lentState (a .numbers .now) (a .sizes .now) (a .counts .now) (a .buf .now)
 
-known-is : (k : tie.After-known) {b : Bool} → k .known .result ≡ b → knownIn (H k) ≡ b
-known-is k e = sym (k .known .ensures ∙ ap (λ (x : Record). known (x .mode) (x .repeats)) (k .before .record-in .ensures)) ∙ e
+known-is : (k : tie.After-valid-numbers) {b : Bool} → k .valid-numbers .result ≡ b → knownIn (H k) ≡ b
+known-is k e = sym (k .valid-numbers .ensures ∙ ap (λ (x : Record). validNumbers (x .mode) (x .repeats)) (k .before .record-in .ensures)) ∙ e
 
 returns : tie.Need-returns
 returns c four two =

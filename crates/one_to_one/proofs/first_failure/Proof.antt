@@ -27,20 +27,20 @@ start c = c .before .before .before .before
 -- the turn, where the entry's name was looked up
 step : (c : tie.After-finds-id Inv-loop μ-loop) → let at = entered c .before .loop in
     Step (start (entered c) .args .image .now) (at .at) (at .left)
-    (c .before .before .before .size-at .result) (c .before .before .name-at .result .now) (c .before .get-u322 .result) (c .finds-id .result)
+    (c .before .before .before .size-or-zero .result) (c .before .before .name-at .result .now) (c .before .word-or-zero2 .result) (c .finds-id .result)
 step c =
     let l = entered c in
     record {
       turn = turn (l .before .loop .inv) (l .loop-test .taken);
-      len-is = c .before .before .before .size-at .ensures .is;
+      len-is = c .before .before .before .size-or-zero .ensures .is;
       name-read = c .before .before .name-at .ensures;
-      id-read = c .before .get-u322 .ensures;
+      id-read = c .before .word-or-zero2 .ensures;
       finds-is = c .finds-id .ensures;
     }
 
 -- its entry lies in the image
 lies-inside : (c : tie.After-finds-id Inv-loop μ-loop) →
-    NameAtPre (start (entered c) .args .image .now) (entered c .before .loop .at) (c .before .before .before .size-at .result)
+    NameAtPre (start (entered c) .args .image .now) (entered c .before .loop .at) (c .before .before .before .size-or-zero .result)
 lies-inside c = let t = step c in inside (t .turn) (t .len-is)
 
 loop-holds : tie.Need-loop-holds Inv-loop μ-loop
@@ -48,13 +48,13 @@ loop-holds c =
     let s = c .before .before in
     walk-starts (s .args .n) (λ (i : ℕ). omega (arith, c .before .shared-slice-known .given i)) (s .pre)
 
-add-size-at : tie.Need-add-size-at Inv-loop μ-loop
-add-size-at c =
+add-size-or-zero : tie.Need-add-size-or-zero Inv-loop μ-loop
+add-size-or-zero c =
     let t = turn (c .before .loop .inv) (c .loop-test .taken) in
     omega (arith, inside t refl .inside, t .short)
 
 name-at-requires : tie.Need-name-at-requires Inv-loop μ-loop
-name-at-requires c κs = inside (turn (c .before .before .loop .inv) (c .before .loop-test .taken)) (c .size-at .ensures .is)
+name-at-requires c κs = inside (turn (c .before .before .loop .inv) (c .before .loop-test .taken)) (c .size-or-zero .ensures .is)
 
 cast-t13 : tie.Need-cast-t13 Inv-loop μ-loop
 cast-t13 c = omega (arith, lies-inside (c .before) .inside, entered (c .before) .before .loop .inv .short)
@@ -68,7 +68,7 @@ cast-t14 c = let f = c .before .before .before in omega (arith, lies-inside f .i
 returns-2 : tie.Need-returns-2 Inv-loop μ-loop
 returns-2 c =
     let f = c .before .before .before in
-    let flag = entered f .before .before .get-u32 in
+    let flag = entered f .before .before .word-or-zero in
     other-name (step f) (not-false _ (c .before .before .if1 .left)) (ap (λ (k : ℕ). eqb k 0) (flag .ensures))
     (c .before .gives-name .ensures) (not-true _ (c .if2 .taken))
 
@@ -84,7 +84,7 @@ loop-less c = omega arith
 loop-again : tie.Need-loop-again Inv-loop μ-loop
 loop-again c =
     let f = c .before .before .before in
-    let flag = entered f .before .before .get-u32 in
+    let flag = entered f .before .before .word-or-zero in
     walk-on (step f) (not-false _ (c .before .before .if1 .left)) (ap (λ (k : ℕ). eqb k 0) (flag .ensures))
     (c .before .gives-name .ensures) (not-false _ (c .if2 .left))
 
@@ -99,7 +99,7 @@ first-failure-spec =
     μ-loop
     (λ c κs. search needs)
     loop-holds
-    add-size-at
+    add-size-or-zero
     (λ c κs. search needs)
     name-at-requires
     (λ c κs. search needs)

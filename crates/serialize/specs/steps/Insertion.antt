@@ -9,6 +9,7 @@ use lib.Seq.{sets}
 use lib.Dec.{eqb, leb}
 use Rattle.jhash.specs.NameHash.{hashOf}
 use Rattle.image.specs.Bytes.{word, le32}
+use Rattle.image.specs.Head.{tableAt, bucketNumber}
 use Rattle.image.specs.Tables.{tableOf, start, probeSequence, firstEmpty}
 use Rattle.image.specs.declared.Mode.{Mode}
 use Rattle.image.specs.declared.Mode.the-variants.{Twoway, Oneway}
@@ -34,8 +35,8 @@ inserted buf o n h at =
 -- a pair inserted into the table of its hash, which the row in the head gives
 unfoldable pub insertedByRow : List ℕ → ℕ → ℕ → List ℕ
 insertedByRow buf h at =
-    let o = word buf (24 + 8 * tableOf h) in
-    let n = word buf (28 + 8 * tableOf h) in
+    let o = tableAt buf (tableOf h) in
+    let n = bucketNumber buf (tableOf h) in
     cond (holdsTable buf o n) (inserted buf o n h at) buf
 
 -- ---- an entry
@@ -54,8 +55,8 @@ pub record InsertEntryPre (back-offset end at n : ℕ) (buf : List ℕ) : Type 0
   pub back-word : back-offset < 4294967296
 
 -- the hash of its name
-unfoldable pub hashAt : List ℕ → ℕ → ℕ → ℕ
-hashAt buf at n = hashOf (take (n - 1) (drop (at + 8) buf))
+unfoldable pub entryHash : List ℕ → ℕ → ℕ → ℕ
+entryHash buf at n = hashOf (take (n - 1) (drop (at + 8) buf))
 
 -- its offset stored under its id in the back array, which begins at back-offset
 abbrev pub backStored : Mode → List ℕ → ℕ → ℕ → ℕ → List ℕ
@@ -65,7 +66,7 @@ backStored Oneway buf back-offset id at = buf
 -- the entry inserted into its table and the back array
 unfoldable pub entryInserted : Mode → ℕ → List ℕ → ℕ → ℕ → List ℕ
 entryInserted mode back-offset buf at n =
-    backStored mode (insertedByRow buf (hashAt buf at n) at) back-offset (word buf at) at
+    backStored mode (insertedByRow buf (entryHash buf at n) at) back-offset (word buf at) at
 
 -- ---- all entries
 

@@ -8,6 +8,7 @@ use mathlib.Core.Logic.{_⊎_}
 use mathlib.Core.List.{List, [], _∷_}
 use lib.ListN.{length, getD, take, drop}
 use Rattle.image.specs.Bytes.{word, same, Each}
+use Rattle.image.specs.Head.{tableAt, bucketNumber}
 use Rattle.image.specs.Tables.{Bucket, tableOf, start, probeSequence, firstEmpty}
 use Rattle.image.specs.Image.{Entry, headSize}
 use Rattle.image.specs.Stored.{between}
@@ -16,7 +17,7 @@ use Rattle.image.specs.steps.EntryLength.{wholeLength}
 use Rattle.image.specs.steps.Contracts.{BucketIs, offsetAt}
 use Rattle.lookup_laws.specs.steps.HasMatch.{hasMatch}
 use Rattle.serialize.specs.Serialize.{storedEntries, serialized}
-use Rattle.serialize.specs.steps.Insertion.{inserted, insertedByRow, hashAt, entryInserted, insertedFrom}
+use Rattle.serialize.specs.steps.Insertion.{inserted, insertedByRow, entryHash, entryInserted, insertedFrom}
 use Rattle.serialize.specs.steps.Partition.{pairsStored, pairsIn, tableStored, tableFilled, tablesFrom}
 use Rattle.serialize.specs.steps.Written.{zeroed}
 
@@ -78,7 +79,7 @@ pub record PairInserted (buf : List ℕ) (end o n h at : ℕ) (after : List ℕ)
 
 -- by the row in the head
 abbrev pub RowUnmet : List ℕ → ℕ → ℕ → ℕ → Type 0
-RowUnmet buf end h at = Unmet buf end (word buf (24 + 8 * tableOf h)) (word buf (28 + 8 * tableOf h)) h at
+RowUnmet buf end h at = Unmet buf end (tableAt buf (tableOf h)) (bucketNumber buf (tableOf h)) h at
 
 pub record RowInserted (buf : List ℕ) (end h at : ℕ) (after : List ℕ) (met : Bool) : Type 0 where
   pub leaves : after ≡ insertedByRow buf h at
@@ -87,14 +88,14 @@ pub record RowInserted (buf : List ℕ) (end h at : ℕ) (after : List ℕ) (met
 pub record EntryInserted (mode : Mode) (back-offset : ℕ) (buf : List ℕ) (end at n : ℕ) (after : List ℕ) (met : Bool)
     : Type 0 where
   pub leaves : after ≡ entryInserted mode back-offset buf at n
-  pub unmet : met ≡ false → RowUnmet buf end (hashAt buf at n) at
+  pub unmet : met ≡ false → RowUnmet buf end (entryHash buf at n) at
 
 -- m entries from `at` on meet none
 abbrev pub UnmetFrom : Mode → ℕ → ℕ → ℕ → ℕ → List ℕ → Type 0
 UnmetFrom mode back-offset end zero at buf = Unit {0}
 UnmetFrom mode back-offset end (suc m) at buf =
     let n = wholeLength (between buf at end) in
-    RowUnmet buf end (hashAt buf at n) at
+    RowUnmet buf end (entryHash buf at n) at
     × UnmetFrom mode back-offset end m (at + (8 + n)) (entryInserted mode back-offset buf at n)
 
 pub record EntriesInserted (stop : Bool) (mode : Mode) (back-offset end entries : ℕ) (buf after : List ℕ) (met : Bool)

@@ -14,7 +14,7 @@ use Rattle.image.specs.Image.{bucketBytes}
 use Rattle.image.specs.Stored.{between}
 use Rattle.image.specs.steps.EntryLength.{wholeLength}
 use Rattle.image.specs.declared.Mode.{Mode}
-use Rattle.serialize.specs.steps.Insertion.{hashAt, backStored}
+use Rattle.serialize.specs.steps.Insertion.{entryHash, backStored}
 
 -- ---- the entries partitioned
 
@@ -51,7 +51,7 @@ unfoldable pub partitionedFrom : Mode → ℕ → ℕ → ℕ → ℕ → List �
 partitionedFrom mode back-offset end zero at places buf = buf
 partitionedFrom mode back-offset end (suc m) at places buf =
     let n = wholeLength (between buf at end) in
-    let h = hashAt buf at n in
+    let h = entryHash buf at n in
     cond (eqb n 0) buf
     (partitionedFrom mode back-offset end m (at + (8 + n)) (advanced places h)
     (partitioned mode back-offset places buf at (word buf at) h))

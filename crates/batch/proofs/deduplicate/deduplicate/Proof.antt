@@ -6,7 +6,7 @@ use mathlib.Core.Path.{_≡_, refl, sym, subst}
 use mathlib.Core.List.{List}
 use lib.ListN.{length, length-set, replicate, length-replicate, getD-replicate}
 use borrow.Author.Needs.{needs}
-use Rattle.packed.proofs.NameEnds.{length-names}
+use Rattle.image.proofs.NameEnds.{length-names}
 use Rattle.batch.specs.RoundNames.{names}
 use Rattle.batch.specs.steps.Slots.{SlotsHold}
 use Rattle.batch.specs.steps.Duplicates.{Deduplicated}

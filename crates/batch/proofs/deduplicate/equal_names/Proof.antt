@@ -7,7 +7,7 @@ use lib.ListN.{length}
 use borrow.Author.Needs.{needs}
 use Rattle.image.specs.Bytes.{same}
 use Rattle.image.proofs.Equal.{same-false}
-use Rattle.packed.proofs.NameEnds.{length-names}
+use Rattle.image.proofs.NameEnds.{length-names}
 use Rattle.batch.specs.RoundNames.{names, nth}
 use Rattle.batch.proofs.Duplicates.{other-hash}
 use Rattle.batch.proofs.deduplicate.equal_names.Statement.{statement}

@@ -6,7 +6,7 @@ use mathlib.Core.Path.{sym, subst, _∙_}
 use mathlib.Core.List.{List}
 use lib.ListN.{length, getD, length-set}
 use borrow.Author.Needs.{needs}
-use Rattle.packed.proofs.NameEnds.{length-names}
+use Rattle.image.proofs.NameEnds.{length-names}
 use Rattle.batch.specs.RoundNames.{names}
 use Rattle.batch.specs.steps.Slots.{roundSlot, SlotsHold}
 use Rattle.lookup_laws.proofs.SlotSearch.{Remaining, remaining-start, remaining-step, remaining-end, first-empty, none-matches}

@@ -6,8 +6,8 @@ use mathlib.Core.Path.{_≡_, refl, _∙_}
 use mathlib.Core.List.{List}
 use lib.ListN.{length}
 use borrow.Author.Needs.{needs}
-use Rattle.packed.specs.Names.{names}
-use Rattle.packed.proofs.NameEnds.{length-names}
+use Rattle.image.specs.PackedNames.{names}
+use Rattle.image.proofs.NameEnds.{length-names}
 use Rattle.writer.specs.declared.CQDBWriter.{CQDBWriter}
 use Rattle.writer.specs.State.{stateWith}
 use Rattle.build.proofs.SinglePuts.{PutsBefore, puts-start, puts-turn, puts-end, answers-end}

@@ -7,7 +7,7 @@ use lib.ListN.{length, getD, take}
 use lib.Seq.{length-take-le}
 use borrow.Author.Needs.{needs}
 use Rattle.image.specs.Image.{Entry, headSize, backIn, backSizeOf, backOffset, imageSize}
-use Rattle.packed.proofs.NameEnds.{begin-later}
+use Rattle.image.proofs.NameEnds.{begin-later}
 use Rattle.serialize.proofs.Cleared.{Numbers, size-is, back-offset-is}
 use Rattle.serialize.proofs.WriteSteps.{backOffset-le}
 use Rattle.build.specs.steps.Stores.{listEntries}

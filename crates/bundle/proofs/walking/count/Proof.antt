@@ -19,10 +19,10 @@ abbrev μ-loop : tie.MeasureT-loop
 loop-holds : tie.Need-loop-holds Inv-loop μ-loop
 loop-holds c = counting-starts (c .before .args .file .now)
 
-size-at-requires : tie.Need-size-at-requires Inv-loop μ-loop
-size-at-requires c κs = c .before .loop .inv .inside
+image-size-at-requires : tie.Need-image-size-at-requires Inv-loop μ-loop
+image-size-at-requires c κs = c .before .loop .inv .inside
 
-abbrev at-loop : tie.After-size-at Inv-loop μ-loop → tie.At-loop Inv-loop μ-loop
+abbrev at-loop : tie.After-image-size-at Inv-loop μ-loop → tie.At-loop Inv-loop μ-loop
 at-loop c = c .before .before
 
 abbrev file : tie.At-loop Inv-loop μ-loop → List ℕ
@@ -32,7 +32,7 @@ returns : tie.Need-returns Inv-loop μ-loop
 returns c =
     let s = at-loop (c .before) in
     let i = s .loop in
-    let size = c .before .size-at in
+    let size = c .before .image-size-at in
     let there = none-there (file s) (i .at) (size .result) (size .ensures) (c .if1 .taken) in
     sym (count-broke (file s) (i .at) (i .inv .most) (i .images) (λ e. omega arith) there) ∙ i .inv .rest
 
@@ -40,16 +40,16 @@ add-images : tie.Need-add-images Inv-loop μ-loop
 add-images c = omega (arith, at-loop (c .before) .loop .inv .few)
 
 add-at : tie.Need-add-at Inv-loop μ-loop
-add-at c = omega (arith, c .before .size-at .ensures .inside)
+add-at c = omega (arith, c .before .image-size-at .ensures .inside)
 
 loop-less : tie.Need-loop-less Inv-loop μ-loop
-loop-less c = omega (arith, c .before .size-at .ensures .inside)
+loop-less c = omega (arith, c .before .image-size-at .ensures .inside)
 
 loop-again : tie.Need-loop-again Inv-loop μ-loop
 loop-again c =
     let s = at-loop (c .before) in
     let i = s .loop in
-    let size = c .before .size-at in
+    let size = c .before .image-size-at in
     let there = some-there (file s) (i .at) (size .result) (size .ensures) (c .if1 .left) in
     counting-turn (file s) (i .at) (i .images) (size .result) (counting (file s)) (there .begins) (there .size-is) (i .inv)
 
@@ -67,7 +67,7 @@ count-spec =
     Inv-loop
     μ-loop
     loop-holds
-    size-at-requires
+    image-size-at-requires
     returns
     add-images
     add-at

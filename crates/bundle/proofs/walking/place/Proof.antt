@@ -24,10 +24,10 @@ abbrev μ-loop : tie.MeasureT-loop
 loop-holds : tie.Need-loop-holds Inv-loop μ-loop
 loop-holds c = record { inside = omega arith; rest = refl }
 
-size-at-requires : tie.Need-size-at-requires Inv-loop μ-loop
-size-at-requires c κs = c .before .loop .inv .inside
+image-size-at-requires : tie.Need-image-size-at-requires Inv-loop μ-loop
+image-size-at-requires c κs = c .before .loop .inv .inside
 
-abbrev at-loop : tie.After-size-at Inv-loop μ-loop → tie.At-loop Inv-loop μ-loop
+abbrev at-loop : tie.After-image-size-at Inv-loop μ-loop → tie.At-loop Inv-loop μ-loop
 at-loop c = c .before .before
 
 abbrev file : tie.At-loop Inv-loop μ-loop → List ℕ
@@ -37,16 +37,16 @@ returns : tie.Need-returns Inv-loop μ-loop
 returns c =
     let s = at-loop (c .before) in
     let i = s .loop in
-    let size = c .before .size-at in
+    let size = c .before .image-size-at in
     let there = none-there (file s) (i .at) (size .result) (size .ensures) (c .if1 .taken) in
     sym (place-broke (file s) (i .at) (i .left) (λ e. omega arith) there) ∙ i .inv .rest
 
 -- the image that the walk has come to
 there : (c : tie.Else1 Inv-loop μ-loop)
-    → let s = at-loop (c .before) in ImageThere (file s) (s .loop .at) (c .before .size-at .result)
+    → let s = at-loop (c .before) in ImageThere (file s) (s .loop .at) (c .before .image-size-at .result)
 there c =
     let s = at-loop (c .before) in
-    let size = c .before .size-at in
+    let size = c .before .image-size-at in
     some-there (file s) (s .loop .at) (size .result) (size .ensures) (c .if1 .left)
 
 returns-2 : tie.Need-returns-2 Inv-loop μ-loop
@@ -63,17 +63,17 @@ sub-left : tie.Need-sub-left Inv-loop μ-loop
 sub-left c = omega arith
 
 add-at : tie.Need-add-at Inv-loop μ-loop
-add-at c = omega (arith, c .before .before .size-at .ensures .inside)
+add-at c = omega (arith, c .before .before .image-size-at .ensures .inside)
 
 loop-less : tie.Need-loop-less Inv-loop μ-loop
-loop-less c = omega (arith, c .before .before .size-at .ensures .inside)
+loop-less c = omega (arith, c .before .before .image-size-at .ensures .inside)
 
 loop-again : tie.Need-loop-again Inv-loop μ-loop
 loop-again c =
     let s = at-loop (c .before .before) in
     let i = s .loop in
     let image = there (c .before) in
-    let size = c .before .before .size-at in
+    let size = c .before .before .image-size-at in
     record {
       inside = size .ensures .inside;
       rest =
@@ -95,7 +95,7 @@ place-spec =
     Inv-loop
     μ-loop
     loop-holds
-    size-at-requires
+    image-size-at-requires
     returns
     returns-2
     sub-left

@@ -69,15 +69,15 @@ read : (c : tie.After-check-entry Inv-loop μ-loop)
     let l = in-loop e .before in
     let a = start l .args in
     EntryRead (image (in-loop e)) (a .end) (a .two) (a .o) (l .loop .at) (e .before .whole-length .result) (h .hash-or-zero .result)
-    (c .before .before .before .size-at .result) (c .before .before .get-u32 .result) (c .before .not-before .result) (c .check-entry .result)
+    (c .before .before .before .size-or-zero .result) (c .before .before .word-or-zero .result) (c .before .not-before .result) (c .check-entry .result)
 read c =
     let e = whole (hashed c) in
     record {
       length-is = e .before .whole-length .ensures .is;
       whole = e .if1 .left;
       hash-is = hash-is (hashed c);
-      id-is = c .before .before .before .size-at .ensures .is;
-      link-is = c .before .before .get-u32 .ensures;
+      id-is = c .before .before .before .size-or-zero .ensures .is;
+      link-is = c .before .before .word-or-zero .ensures;
       linked-is = c .before .not-before .ensures;
       named-is = c .check-entry .ensures;
     }
@@ -125,7 +125,7 @@ loop-again c =
     rw (c .before .larger .ensures)
     (entering-next (t .before .loop .inv) (start (t .before) .pre .area .inside) (t .loop-test .taken) (read k)
     (not-false _ (v .if2 .left))
-    (c .one-if-equal .result) (raised .last .0) (e .before .whole-length .ensures .small) (k .before .before .before .size-at .ensures .small)
+    (c .one-if-equal .result) (raised .last .0) (e .before .whole-length .ensures .small) (k .before .before .before .size-or-zero .ensures .small)
     (c .one-if-equal .ensures) (raised .ensures))
 
 returns-3 : tie.Need-returns-3 Inv-loop μ-loop

@@ -10,7 +10,7 @@ use lib.ListN.{length}
 use lib.Dec.{eqb}
 use Rattle.image.specs.Head.{tableAt, bucketNumber}
 use Rattle.canonical.specs.steps.Checks.{rowCount, tableOk}
-use Rattle.canonical.proofs.TableLoops.{Rows, rows-start, row-number, row-offset, row-room, row-table, row-next, rows-end}
+use Rattle.canonical.proofs.TableLoops.{Rows, rows-start, row-number, table-offset, row-room, row-table, row-next, rows-end}
 use Rattle.canonical.proofs.tables.check_rows.Statement.{statement}
 use Rattle.canonical.proofs.tables.check_rows.Tie as tie
 
@@ -37,15 +37,15 @@ even : (c : tie.Else1 Inv-loop μ-loop) → bucketNumber (image-of (in-loop c)) 
 even c = rw (c .before .row-number .ensures .is) at (c .if1 .left)
 
 -- the offset that the table must have
-wanted : (c : tie.After-offset-of Inv-loop μ-loop)
+wanted : (c : tie.After-offset-or-zero Inv-loop μ-loop)
     → let l = in-loop (c .before .before) in
-    c .offset-of .result ≡ cond (eqb (rowCount (image-of l) (row l)) 0) 0 (l .before .loop .o)
-wanted c = c .offset-of .ensures ∙ ap (λ (k : ℕ). cond (eqb k 0) 0 ((in-loop (c .before .before)) .before .loop .o)) (count (c .before .before .before))
+    c .offset-or-zero .result ≡ cond (eqb (rowCount (image-of l) (row l)) 0) 0 (l .before .loop .o)
+wanted c = c .offset-or-zero .ensures ∙ ap (λ (k : ℕ). cond (eqb k 0) 0 ((in-loop (c .before .before)) .before .loop .o)) (count (c .before .before .before))
 
 there : (c : tie.Else2 Inv-loop μ-loop)
     → let l = in-loop (c .before .before .before) in
     tableAt (image-of l) (row l) ≡ cond (eqb (rowCount (image-of l) (row l)) 0) 0 (l .before .loop .o)
-there c = sym (c .before .before .row-offset .ensures .is) ∙ c .if2 .left ∙ wanted (c .before)
+there c = sym (c .before .before .table-offset .ensures .is) ∙ c .if2 .left ∙ wanted (c .before)
 
 -- the table lies in the image
 room : (c : tie.Else2 Inv-loop μ-loop)
@@ -78,8 +78,8 @@ returns-2 : tie.Need-returns-2 Inv-loop μ-loop
 returns-2 c =
     let e = c .before .before .before in
     let l = in-loop e in
-    row-offset (l .before .loop .inv) (l .loop-test .taken) (even e)
-    (λ y. c .if2 .taken (c .before .before .row-offset .ensures .is ∙ y ∙ sym (wanted (c .before))))
+    table-offset (l .before .loop .inv) (l .loop-test .taken) (even e)
+    (λ y. c .if2 .taken (c .before .before .table-offset .ensures .is ∙ y ∙ sym (wanted (c .before))))
 
 check-table-requires : tie.Need-check-table-requires Inv-loop μ-loop
 check-table-requires c κs = record { inside = room c; number = search needs }

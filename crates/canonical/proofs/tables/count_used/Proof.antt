@@ -26,7 +26,7 @@ next : (c : tie.After-used-bit Inv-loop μ-loop)
     Used (a .image .now) (a .o) (a .n) (l .k + 1) (l .used + c .used-bit .result)
 next c =
     used-next (c .before .before .before .loop .inv) (c .used-bit .result) (c .before .before .loop-test .taken)
-    (c .used-bit .ensures ∙ ap (bit 1) (c .before .get-u32 .ensures))
+    (c .used-bit .ensures ∙ ap (bit 1) (c .before .word-or-zero .ensures))
 
 add-used : tie.Need-add-used Inv-loop μ-loop
 add-used c = let u = next c in omega (arith, u .few, u .inside)

@@ -32,14 +32,14 @@ told c =
     let of-mode-of = c .before .before .before .mode-of in
     let tested = c .before .before .before .before in
     begin-known (a .mode) (a .repeats) (length (a .buf .now)) (given c) (counts-after c) (of-mode-of .result) (of-repeats-of .result)
-    (begunOf (c .begin .result)) (sym (tested .before .known .ensures) ∙ not-false _ (tested .if1 .left)) (of-mode-of .ensures)
+    (begunOf (c .begin .result)) (sym (tested .before .valid-numbers .ensures) ∙ not-false _ (tested .if1 .left)) (of-mode-of .ensures)
     (of-repeats-of .ensures) (c .begin .ensures)
 
 returns : tie.Need-returns
 returns c =
     let a = c .before .before .before .args in
     begin-unknown (a .mode) (a .repeats) (length (a .buf .now)) (lentWriter (a .numbers .now) (a .sizes .now) (a .counts .now))
-    (sym (c .before .known .ensures) ∙ not-true _ (c .if1 .taken))
+    (sym (c .before .valid-numbers .ensures) ∙ not-true _ (c .if1 .taken))
 
 returns-2 : tie.Need-returns-2
 returns-2 c =

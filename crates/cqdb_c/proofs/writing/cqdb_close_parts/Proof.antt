@@ -3,7 +3,7 @@ use mathlib.Core.Path.{_≡_, sym, ap, _∙_}
 use mathlib.Core.Bool.{Bool}
 use borrow.Author.Tests.{not-true, not-false}
 use Rattle.writer.specs.declared.c_record.Record.{Record}
-use Rattle.writer.specs.Numbers.{known}
+use Rattle.writer.specs.Numbers.{validNumbers}
 use Rattle.writer.specs.CRecord.{writerOf, CState, lentState, knownIn}
 use Rattle.cqdb_c.proofs.CCalls.{close-unknown}
 use Rattle.cqdb_c.proofs.InPlace.{close-in-place}
@@ -12,14 +12,14 @@ use Rattle.cqdb_c.proofs.writing.cqdb_close_parts.Statement.{statement}
 use Rattle.cqdb_c.proofs.writing.cqdb_close_parts.Tie as tie
 
 -- what was lent, and whether its modes are known
-abbrev begun : tie.After-known → tie.Start
+abbrev begun : tie.After-valid-numbers → tie.Start
 begun k = k .before .before .before
 
-abbrev H : tie.After-known → CState
+abbrev H : tie.After-valid-numbers → CState
 H k = let a = begun k .args in lentState (a .numbers .now) (a .sizes .now) (a .counts .now) (a .buf .now)
 
-known-is : (k : tie.After-known) {b : Bool} → k .known .result ≡ b → knownIn (H k) ≡ b
-known-is k e = sym (k .known .ensures ∙ ap (λ (x : Record). known (x .mode) (x .repeats)) (k .before .record-in .ensures)) ∙ e
+known-is : (k : tie.After-valid-numbers) {b : Bool} → k .valid-numbers .result ≡ b → knownIn (H k) ≡ b
+known-is k e = sym (k .valid-numbers .ensures ∙ ap (λ (x : Record). validNumbers (x .mode) (x .repeats)) (k .before .record-in .ensures)) ∙ e
 
 returns : tie.Need-returns
 returns c = close-unknown (H (c .before)) (known-is (c .before) (not-true _ (c .if1 .taken)))

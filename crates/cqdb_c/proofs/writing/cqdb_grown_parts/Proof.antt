@@ -3,7 +3,7 @@ use mathlib.Core.Path.{_≡_, sym, ap, _∙_}
 use mathlib.Core.Bool.{Bool}
 use borrow.Author.Tests.{not-true, not-false}
 use Rattle.writer.specs.declared.c_record.Record.{Record}
-use Rattle.writer.specs.Numbers.{known}
+use Rattle.writer.specs.Numbers.{validNumbers}
 use Rattle.writer.specs.CRecord.{writerOf, recordIn}
 use Rattle.cqdb_c.proofs.GrownCalls.{grown-unknown}
 use Rattle.writer.proofs.CRecords.{length-stored}
@@ -13,14 +13,14 @@ use Rattle.cqdb_c.proofs.writing.cqdb_grown_parts.Statement.{statement}
 use Rattle.cqdb_c.proofs.writing.cqdb_grown_parts.Tie as tie
 
 -- what was lent, and whether its modes are known
-abbrev begun : tie.After-known → tie.Start
+abbrev begun : tie.After-valid-numbers → tie.Start
 begun k = k .before .before .before
 
-abbrev R : tie.After-known → Record
+abbrev R : tie.After-valid-numbers → Record
 R k = let a = begun k .args in recordIn (a .numbers .now) (a .sizes .now)
 
-known-is : (k : tie.After-known) {b : Bool} → k .known .result ≡ b → known (R k .mode) (R k .repeats) ≡ b
-known-is k e = sym (k .known .ensures ∙ ap (λ (x : Record). known (x .mode) (x .repeats)) (k .before .record-in .ensures)) ∙ e
+known-is : (k : tie.After-valid-numbers) {b : Bool} → k .valid-numbers .result ≡ b → validNumbers (R k .mode) (R k .repeats) ≡ b
+known-is k e = sym (k .valid-numbers .ensures ∙ ap (λ (x : Record). validNumbers (x .mode) (x .repeats)) (k .before .record-in .ensures)) ∙ e
 
 returns : tie.Need-returns
 returns c =

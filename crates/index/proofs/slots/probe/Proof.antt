@@ -52,8 +52,8 @@ returns-2 c =
     let p = o .before in
     rest-empty (p .before .loop .inv) (p .loop-test .taken) (sym (o .offset-at .ensures) ∙ c .if2 .taken)
 
-hash-at-requires : tie.Need-hash-at-requires Inv-loop μ-loop
-hash-at-requires c κs = c .before .before .before .loop .inv .inside
+slot-hash-requires : tie.Need-slot-hash-requires Inv-loop μ-loop
+slot-hash-requires c κs = c .before .before .before .loop .inv .inside
 
 add-result : tie.Need-add-result Inv-loop μ-loop
 add-result c = omega arith
@@ -64,7 +64,7 @@ returns-3 c =
     let o = x .before .before in
     let p = o .before in
     rest-match (p .before .loop .inv) (p .loop-test .taken) (λ z. x .before .if2 .left (o .offset-at .ensures ∙ z))
-    (sym (x .hash-at .ensures) ∙ c .before .before .if3 .taken)
+    (sym (x .slot-hash .ensures) ∙ c .before .before .if3 .taken)
     (says (named (begun p)) (o .offset-at .ensures) (c .before .has-name .ensures) (c .if4 .taken))
 
 next-requires : tie.Need-next-requires Inv-loop μ-loop
@@ -87,7 +87,7 @@ loop-again c =
     let other : slotAt words (l .k) .hash ≡ begun p .args .h → v (slotAt words (l .k) .at) ≡ false = λ e.
     ⊎-elim
     (λ w. says v (o .offset-at .ensures) (w .1 .ensures) (w .2 .left))
-    (λ w. absurd (w .left (x .hash-at .ensures ∙ e)))
+    (λ w. absurd (w .left (x .slot-hash .ensures ∙ e)))
     (c .before .if3 .came) in
     rest-next (l .inv) (p .loop-test .taken) (λ z. x .before .if2 .left (o .offset-at .ensures ∙ z)) other (c .next .result) (c .next .ensures .is)
     (c .next .ensures .inside)
@@ -106,7 +106,7 @@ probe-spec =
     loop-holds
     offset-at-requires
     returns-2
-    hash-at-requires
+    slot-hash-requires
     (λ c κs. search needs)
     add-result
     returns-3

@@ -42,11 +42,11 @@ loop-holds c =
     ahead-starts (s .args .n) (λ i. c .shared-slice-known .given i .fits) (s .pre .own)
     (counting-starts (s .args .image .now) (s .args .counts .now) (s .args .n) (s .pre .zeros))
 
-add-size-at : tie.Need-add-size-at Inv-loop μ-loop
-add-size-at c = omega (arith, inside (this c) refl .inside, c .before .loop .inv .short)
+add-size-or-zero : tie.Need-add-size-or-zero Inv-loop μ-loop
+add-size-or-zero c = omega (arith, inside (this c) refl .inside, c .before .loop .inv .short)
 
 name-at-requires : tie.Need-name-at-requires Inv-loop μ-loop
-name-at-requires c κs = inside (this (c .before)) (c .size-at .ensures .is)
+name-at-requires c κs = inside (this (c .before)) (c .size-or-zero .ensures .is)
 
 add-sum : tie.Need-add-sum Inv-loop μ-loop
 add-sum c =
@@ -67,7 +67,7 @@ add-at-2 : tie.Need-add-at-2 Inv-loop μ-loop
 add-at-2 c =
     let b = looked-up c in
     let l = in-loop b in
-    omega (arith, inside (this l) (b .before .before .before .size-at .ensures .is) .inside, l .before .loop .inv .short)
+    omega (arith, inside (this l) (b .before .before .before .size-or-zero .ensures .is) .inside, l .before .loop .inv .short)
 
 sub-left : tie.Need-sub-left Inv-loop μ-loop
 sub-left c = omega arith
@@ -79,7 +79,7 @@ loop-again : tie.Need-loop-again Inv-loop μ-loop
 loop-again c =
     let b = looked-up c in
     let l = in-loop b in
-    let len = b .before .before .before .size-at .ensures .is in
+    let len = b .before .before .before .size-or-zero .ensures .is in
     ahead-next (this l) len
     (counting-next (this l .holds) (l .loop-test .taken) (b .buckets .result) _ (omega (arith, b .buckets .ok))
     (b .buckets .ensures
@@ -96,7 +96,7 @@ count-lengths-spec =
     Inv-loop
     μ-loop
     loop-holds
-    add-size-at
+    add-size-or-zero
     (λ c κs. search needs)
     name-at-requires
     (λ c κs. search needs)

@@ -70,7 +70,7 @@ loop-again c =
       most = omega (arith, less);
       long = again .store-word2 .kept .0 ∙ stored .store-word .kept .0 ∙ i .inv .long;
       rows =
-          rows-step counts (i .buf) _ (i .o) (i .t) 256 less is (one .before .row-offset .ensures) (one .low .ensures) (two .low2 .ensures)
+          rows-step counts (i .buf) _ (i .o) (i .t) 256 less is (one .before .offset-or-zero .ensures) (one .low .ensures) (two .low2 .ensures)
           (stored .store-word .ensures) (again .store-word2 .ensures) (i .inv .rows);
       begins = table-offsets-step counts (i .places) _ (i .o) (i .t) 256 (c .low3 .result) (w .as-u64 .result) less (c .low3 .ensures) is (i .inv .begins);
       near = omega (arith, w .as-u64 .ensures .small, i .inv .near);

@@ -8,7 +8,7 @@ returns : tie.Need-returns
 returns c =
     let read = c .before .before .before .before .before .before .before .before in
     let a = read .before .before .before .before .before .args in
-    entry-inserted (a .mode) (a .back-offset) (a .buf .now) (a .end) (a .at) (a .n) (read .before .before .get-u32 .ensures) (read .hash-at .ensures)
+    entry-inserted (a .mode) (a .back-offset) (a .buf .now) (a .end) (a .at) (a .n) (read .before .before .word-or-zero .ensures) (read .entry-hash .ensures)
     (c .before .before .before .before .before .before .insert-by-row .ensures) (c .before .before .store-back .ensures)
 
 pub insert-entry-spec : {M : Type 1} → statement M

@@ -9,7 +9,7 @@ use Rattle.serialize.proofs.insert.store_back.Tie as tie
 returns : tie.Need-returns
 returns c =
     let a = c .before .before .before .before .before .before .before .args in
-    c .before .before .put-u32 .ensures
+    c .before .before .store-word-clipped .ensures
     ∙ ap (λ (m : Mode). backStored m (a .buf .now) (a .back-offset) (a .id) (a .at)) (sym (c .before .before .before .before .enum-told .given .1))
 
 pub store-back-spec : {M : Type 1} → statement M

@@ -23,7 +23,7 @@ start c = c .before .before
 abbrev entered : tie.Else1 Inv-loop μ-loop → tie.In-loop Inv-loop μ-loop
 entered c = c .before .before .before
 
-abbrev hashed : tie.After-hash-at Inv-loop μ-loop → tie.Else1 Inv-loop μ-loop
+abbrev hashed : tie.After-entry-hash Inv-loop μ-loop → tie.Else1 Inv-loop μ-loop
 hashed c = c .before .before .before .before
 
 -- the entry, where it has been partitioned
@@ -58,7 +58,7 @@ loop-again c =
     let done = p .partition-entry in
     let h = p .before .before .before in
     partitioned-step (entered e .before .loop .inv) (entered e .loop-test .taken) (e .before .whole-length .ensures .is) (e .if1 .left)
-    (entry e .0) (done .last .1 .1 .1 .0) (done .last .1 .1 .0) (done .kept .1 .1 .0) (h .before .before .get-u32 .ensures) (h .hash-at .ensures)
+    (entry e .0) (done .last .1 .1 .1 .0) (done .last .1 .1 .0) (done .kept .1 .1 .0) (h .before .before .word-or-zero .ensures) (h .entry-hash .ensures)
     (done .ensures)
 
 pub partition-entries-spec : {M : Type 1} → statement M

@@ -11,7 +11,7 @@ use Rattle.sheet.proofs.reading.id_at.Tie as tie
 returns : tie.Need-returns
 returns c =
     let a = c .before .before .before .args in
-    c .get-u32 .ensures ∙ sym (ids-at (length (a .part .now) / 4) (a .part .now) (a .i) (omega arith))
+    c .word-or-zero .ensures ∙ sym (ids-at (length (a .part .now) / 4) (a .part .now) (a .i) (omega arith))
 
 returns-2 : tie.Need-returns-2
 returns-2 c =

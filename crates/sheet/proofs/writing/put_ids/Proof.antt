@@ -26,17 +26,17 @@ abbrev μ-loop : tie.MeasureT-loop
 loop-holds : tie.Need-loop-holds Inv-loop μ-loop
 loop-holds c = record { inside = omega arith; buf-length = refl; whole = simp (mul-zero, add-zero) }
 
-mul-put-u32 : tie.Need-mul-put-u32 Inv-loop μ-loop
-mul-put-u32 c = omega arith
+mul-store-word-clipped : tie.Need-mul-store-word-clipped Inv-loop μ-loop
+mul-store-word-clipped c = omega arith
 
-add-put-u32 : tie.Need-add-put-u32 Inv-loop μ-loop
-add-put-u32 c = omega arith
+add-store-word-clipped : tie.Need-add-store-word-clipped Inv-loop μ-loop
+add-store-word-clipped c = omega arith
 
-mul-put-u32-2 : tie.Need-mul-put-u32-2 Inv-loop μ-loop
-mul-put-u32-2 c = omega arith
+mul-store-word-clipped-2 : tie.Need-mul-store-word-clipped-2 Inv-loop μ-loop
+mul-store-word-clipped-2 c = omega arith
 
-shared-slice-read-put-u32 : tie.Need-shared-slice-read-put-u32 Inv-loop μ-loop
-shared-slice-read-put-u32 c = omega arith
+shared-slice-read-store-word-clipped : tie.Need-shared-slice-read-store-word-clipped Inv-loop μ-loop
+shared-slice-read-store-word-clipped c = omega arith
 
 add-i : tie.Need-add-i Inv-loop μ-loop
 add-i c = omega arith
@@ -47,7 +47,7 @@ loop-less c = omega arith
 abbrev start : tie.At-loop Inv-loop μ-loop → tie.Start Inv-loop μ-loop
 start c = c .before .before .before
 
-abbrev at-loop : tie.After-put-u32 Inv-loop μ-loop → tie.At-loop Inv-loop μ-loop
+abbrev at-loop : tie.After-store-word-clipped Inv-loop μ-loop → tie.At-loop Inv-loop μ-loop
 at-loop c = c .before .before .before .before
 
 loop-again : tie.Need-loop-again Inv-loop μ-loop
@@ -58,9 +58,9 @@ loop-again c =
     let l = s .loop in
     record {
       inside = omega arith;
-      buf-length = d .put-u32 .kept .0 ∙ l .inv .buf-length;
+      buf-length = d .store-word-clipped .kept .0 ∙ l .inv .buf-length;
       whole =
-          ap (λ (b : List ℕ). sets b (a .at + 4 * (l .i + 1)) (idBytes (drop (l .i + 1) (a .ids .now)))) (d .put-u32 .ensures)
+          ap (λ (b : List ℕ). sets b (a .at + 4 * (l .i + 1)) (idBytes (drop (l .i + 1) (a .ids .now)))) (d .store-word-clipped .ensures)
           ∙ put-turn (a .ids .now) (l .buf) (a .at) (l .i) (omega arith)
           ∙ l .inv .whole;
     }
@@ -78,10 +78,10 @@ put-ids-spec =
     Inv-loop
     μ-loop
     loop-holds
-    mul-put-u32
-    add-put-u32
-    mul-put-u32-2
-    shared-slice-read-put-u32
+    mul-store-word-clipped
+    add-store-word-clipped
+    mul-store-word-clipped-2
+    shared-slice-read-store-word-clipped
     (λ c κs. search needs)
     add-i
     loop-less

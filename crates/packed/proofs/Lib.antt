@@ -1,2 +1,0 @@
--- Laws of packed names.
-pub mod NameEnds

@@ -1,2 +1,0 @@
--- What describes the steps of code. No rule stands here, and nobody has to believe it: proofs/ joins it to the rules.
-pub mod Contracts
