@@ -575,13 +575,13 @@ cqdb_build_answer cqdb_build_parts(uint32_t mode, uint32_t repeats, uint8_t *buf
      some words are needed, two for each name of the largest table, or else the tables are filled name by name: 1,500,000 names
      then take four to five times as long.
    - A name is refused: the names are put one by one from the beginning. With 5n words that is linear, apart from names that
-     come often (below), and takes some three times as long as the list without it up to 100,000 names, six times at 1,000,000. Each
-     put looks into an index of the names. There is an index from 2n words on, but the fuller it gets the more slots a put reads:
-     with 2n words 100,000 names took five to six times as long as with 4n. With fewer it is quadratic where repeats are off,
-     since each put walks the entries before it: 16,000 names took 0.6 s.
-   - A name that is put k times costs k * k / 2 reads of buckets, whatever is lent, with repeats on as in cqdb_close, and with
-     repeats off too, since the image of all names is tried first: equal names have one probe sequence in their table. 64,000 puts of one
-     name took 1.8 s with either choice. */
+     come often with repeats on (below), and takes some three times as long as the list without it up to 100,000 names, six times
+     at 1,000,000. Each put looks into an index of the names. There is an index from 2n words on, but the fuller it gets the more
+     slots a put reads: with 2n words 100,000 names took five to six times as long as with 4n. With fewer it is quadratic where
+     repeats are off, since each put walks the entries before it: 16,000 names took 0.6 s.
+   - A name that is put k times with repeats on costs k * k / 2 reads of buckets, whatever is lent, as in cqdb_close: equal
+     names have one probe sequence in their table. 64,000 puts of one name took 1.8 s. With repeats off all but the first are
+     refused, and the image of all names is given up at the first name that stands twice: 64,000 puts took 1.3 ms. */
 static inline cqdb_build_answer cqdb_build(uint32_t mode, uint32_t repeats, uint8_t *buf, size_t len,
                                            const uint8_t *names, size_t names_len, const uint64_t *ends, const uint32_t *ids,
                                            size_t n, uint32_t *refusals, size_t places, uint32_t *work, size_t words) {
@@ -595,8 +595,8 @@ typedef struct {
 } cqdb_build_needs_answer;
 
 /* In a buffer of so many bytes no put of the list is refused with 3, with either choice of repeats, unless they exceed
-   4,294,967,295; with so many words it takes linear time, also where a name is refused, unless one name comes very often (see
-   cqdb_build). names_len is the length of the joined names, and n the number of ids. Without a refused put and without a byte
+   4,294,967,295; with so many words it takes linear time, also where a name is refused, unless repeats are on and one name comes
+   very often (see cqdb_build). names_len is the length of the joined names, and n the number of ids. Without a refused put and without a byte
    behind the last name, bytes is the image's size. A mode other than 0 is taken as one-way, and what exceeds 2^64 - 1 is given as
    that. Changes nothing, and reads each id once. */
 cqdb_build_needs_answer cqdb_build_needs(uint32_t mode, size_t names_len, const uint32_t *ids, size_t n);

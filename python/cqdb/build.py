@@ -27,7 +27,7 @@ def build(
     errors: str = "surrogateescape",
 ) -> Built:
     """The image of names and their ids: the puts in order and one close, as Writer makes them, in time that grows with the list,
-    unless one name comes very often.
+    unless repeats is true and one name comes very often.
 
     >>> from cqdb import Catalogue
     >>> image, refused = build([("north wall", 0), ("crane", 1), ("crane", 2)])

@@ -20,8 +20,8 @@ pub struct Built {
 }
 
 impl MemoryWriter {
-    /// The image of a whole list of names and ids: the puts in order and one close, in time that grows with the list,
-    /// unless one name comes very often. A name that the list holds before is refused with [`Refusal::Repeated`], one with a zero byte with
+    /// The image of a whole list of names and ids: the puts in order and one close, in time that grows with the list. A
+    /// name that the list holds before is refused with [`Refusal::Repeated`], one with a zero byte with
     /// [`Refusal::ZeroByte`], and the rest are accepted, as by single puts.
     ///
     /// ```

@@ -1,50 +1,36 @@
 -- A list of puts of which none is refused: the entries are all names with their ids, and one close leaves their image. Assumes nothing.
 use Prim.Native.Nat.{ℕ, suc, _+_, _*_, _-_, _^_, _≤_, _<_}
 use native.Mathlib.Omega.{arith}
-use mathlib.Core.Path.{_≡_, refl, sym, ap, ap₂, subst, _∙_}
-use mathlib.Core.Bool.{Bool, true, false, cond, _||_, _&&_}
+use mathlib.Core.Path.{_≡_, refl, sym, ap, ap₂, _∙_}
+use mathlib.Core.Bool.{Bool, true, false, cond, _||_, _&&_, and-false, or-false, or-assoc}
 use mathlib.Core.List.{List, [], _∷_, _++_, map, append-assoc, append-nil}
-use borrow.Author.Tests.{le-ltb, ltb-false}
-use lib.Dec.{ltb}
-use lib.ListN.{length, getD, take, drop, replicate, length-append}
-use lib.Seq.{drop-drop, length-take-le}
+use borrow.Author.Tests.{le-ltb}
+use lib.ListN.{length, getD, take, replicate, length-append}
+use lib.Seq.{length-take-le}
 use Rattle.image.specs.declared.Mode.{Mode}
 use Rattle.image.specs.declared.Mode.the-variants.{Twoway, Oneway}
-use Rattle.image.specs.Bytes.{same, cat}
-use Rattle.image.specs.Image.{Entry, headSize, entryBytes, entrySize, entriesSize, entriesEnd, placed, count, backSize, backIn, backSizeOf, imageSize, image, hasName, containsName}
-use Rattle.image.specs.Stored.{between}
+use Rattle.image.specs.Bytes.{same}
+use Rattle.image.specs.Image.{Entry, headSize, entriesEnd, backSize, backIn, backSizeOf, imageSize}
+use Rattle.image.specs.Image.{hasName, containsName}
 use Rattle.image.specs.Zero.{hasZero}
-use Rattle.image.proofs.Between.{length-between}
-use Rattle.image.proofs.Bools.{or-false-first, or-false-second}
 use Rattle.image.proofs.Sizes.{entriesSize-append}
-use Rattle.image.specs.PackedNames.{namesFrom, names, invalidEnds, nth, beginOf}
+use Rattle.image.specs.PackedNames.{names, invalidEnds, nth, beginOf}
 use Rattle.image.proofs.NameEnds.{length-names}
-use Rattle.serialize.specs.Serialize.{storedEntries}
-use Rattle.serialize.specs.steps.Preconditions.{ClosePrecondition}
 use Rattle.writer.specs.declared.Repeats.{Repeats}
 use Rattle.writer.specs.declared.Repeats.the-variants.{Off, On}
-use Rattle.writer.specs.declared.CQDBWriter.{CQDBWriter}
-use Rattle.writer.specs.State.{State, stateWith, refusesRepeats, tooLarge, fresh}
-use Rattle.writer.specs.Put.{entryOf, afterPut}
-use Rattle.writer.specs.Close.{closedSize, afterClose}
-use Rattle.writer.proofs.Accepted.{stands}
-use Rattle.writer.proofs.Kept.{put-keeps-behind}
-use Rattle.lists.specs.Calls.{Call, put, after, acceptedAfter, dueFrom, acceptedFrom, accepted, due, sizeOf, putDue, WordId, WordIds, puts}
-use Rattle.lists.specs.Demand3.{answersOf, afterList, acceptedPuts}
-use Rattle.lists.proofs.ListWritten.{Written}
-use Rattle.lists.proofs.Appended.{entriesSize-snoc, sizeOf-is}
-use Rattle.lists.proofs.WrittenRecord.{written-size, written-recorded}
-use Rattle.lists.proofs.ListPuts.{put-written, fresh-written}
-use Rattle.lists.proofs.ListCloses.{close-accepted, close-closed, closed-buffer}
-use Rattle.lists.proofs.CallLists.{list-answers, list-accepted, list-written}
+use Rattle.writer.specs.State.{refusesRepeats, tooLarge}
+use Rattle.writer.specs.Put.{entryOf}
+use Rattle.lists.specs.Calls.{Call, put, acceptedAfter, dueFrom, acceptedFrom, accepted, due, sizeOf, putDue, WordId, WordIds, puts}
+use Rattle.lists.specs.Demand3.{answersOf, acceptedPuts}
+use Rattle.lists.proofs.Appended.{sizeOf-is}
+use Rattle.lists.proofs.CallLists.{list-answers, list-accepted}
 use Rattle.build.specs.Build.{callsOf, listed}
 use Rattle.build.specs.Needs.{atMost, idsBack, bytesNeeded}
 use Rattle.build.specs.steps.Capacity.{bytesForAll, RoomForAll}
 use Rattle.build.specs.steps.Steps.{entriesListed}
 use Rattle.build.proofs.Offsets.{size-all as size-entries}
 use Rattle.lists.proofs.Capacity.{back-rises}
-use Rattle.build.proofs.Listed.{length-listed, names-listed, back-listed, back-words}
-use Rattle.writer.proofs.Closes.{accepted as closable}
+use Rattle.build.proofs.Listed.{length-listed, names-listed, back-listed}
 
 -- ---- the entries of all names
 
@@ -81,16 +67,8 @@ module _ (mode : Mode) (bytes ends ids : List ℕ) (good : invalidEnds (length b
 holds-more : (name : List ℕ) (es : List Entry) (e : Entry) → containsName name (es ++ (e ∷ [])) ≡ (containsName name es || same (e .name) name)
 unfolding containsName
 holds-more name [] e = or-false (same (e .name) name)
-  where
-    or-false : (a : Bool) → (a || false) ≡ a
-    or-false true = refl
-    or-false false = refl
 holds-more name (x ∷ es) e =
-    ap (λ (t : Bool). hasName name x || t) (holds-more name es e) ∙ assoc (hasName name x) (containsName name es) (same (e .name) name)
-  where
-    assoc : (p q r : Bool) → (p || (q || r)) ≡ ((p || q) || r)
-    assoc true q r = refl
-    assoc false q r = refl
+    ap (λ (t : Bool). hasName name x || t) (holds-more name es e) ∙ sym (or-assoc (hasName name x) (containsName name es) (same (e .name) name))
 
 -- ---- what is due to each put
 
@@ -146,15 +124,12 @@ module _ (mode : Mode) (repeats : Repeats) (n : ℕ) where
         (le-ltb 4294967295 (sizeOf mode next) (omega (arith, is, front, whole, f .small)))
 
     free-new : (containsName x es && refusesRepeats repeats) ≡ false
-    free-new = go repeats (f .new)
+    free-new = unrefused repeats (f .new)
       where
-        go : (r : Repeats) → (refusesRepeats r ≡ true → (i : ℕ) → i < length (x ∷ xs) → containsName (nth (x ∷ xs) i) es ≡ false) → (containsName x es && refusesRepeats r) ≡ false
-        go Off h = ap (λ (b : Bool). b && true) (h refl 0 (omega arith))
-        go On h = none (containsName x es)
-          where
-            none : (b : Bool) → (b && false) ≡ false
-            none true = refl
-            none false = refl
+        unrefused : (r : Repeats) → (refusesRepeats r ≡ true → (i : ℕ) → i < length (x ∷ xs) → containsName (nth (x ∷ xs) i) es ≡ false)
+            → (containsName x es && refusesRepeats r) ≡ false
+        unrefused Off h = ap (λ (b : Bool). b && true) (h refl 0 (omega arith))
+        unrefused On h = and-false (containsName x es)
 
     free-due : putDue mode repeats n es e ≡ 0
     unfolding putDue
@@ -180,7 +155,8 @@ module _ (mode : Mode) (repeats : Repeats) (n : ℕ) where
           apart = λ off i j h k. f .apart off (suc i) (suc j) (omega arith) (omega arith);
         }
 
-  none-due : (es : List Entry) (xs : List (List ℕ)) (ids : List ℕ) → Free mode repeats n es xs ids → dueFrom mode repeats n es (callsOf xs ids) ≡ replicate (length xs) 0
+  none-due : (es : List Entry) (xs : List (List ℕ)) (ids : List ℕ) → Free mode repeats n es xs ids
+      → dueFrom mode repeats n es (callsOf xs ids) ≡ replicate (length xs) 0
   unfolding dueFrom callsOf
   none-due es [] ids f = refl
   none-due es (x ∷ xs) [] f = absurd (omega (arith, f .many))
@@ -189,7 +165,8 @@ module _ (mode : Mode) (repeats : Repeats) (n : ℕ) where
       (ap (λ (l : List Entry). dueFrom mode repeats n l (callsOf xs ids)) (free-accepted es x xs id ids f)
       ∙ none-due (es ++ (entryOf x id ∷ [])) xs ids (free-next es x xs id ids f))
 
-  all-accepted : (es : List Entry) (xs : List (List ℕ)) (ids : List ℕ) → Free mode repeats n es xs ids → acceptedFrom mode repeats n es (callsOf xs ids) ≡ es ++ entriesListed xs ids
+  all-accepted : (es : List Entry) (xs : List (List ℕ)) (ids : List ℕ) → Free mode repeats n es xs ids
+      → acceptedFrom mode repeats n es (callsOf xs ids) ≡ es ++ entriesListed xs ids
   unfolding acceptedFrom callsOf puts
   all-accepted es [] ids f = sym (append-nil es)
   all-accepted es (x ∷ xs) [] f = absurd (omega (arith, f .many))
@@ -238,9 +215,6 @@ module _ (mode : Mode) (repeats : Repeats) (buffer bytes ends ids : List ℕ) (g
   accepted-is = all-accepted mode repeats n [] xs ids free-all
 
   -- every put is accepted, and answered by none
-  pub all-accepted-are : accepted mode repeats (length buffer) (listed bytes ends ids) ≡ entriesListed (names bytes ends) ids
-  all-accepted-are = accepted-is
-
   pub accepted-all : acceptedPuts mode repeats buffer (listed bytes ends ids) ≡ entriesListed (names bytes ends) ids
   accepted-all = list-accepted mode repeats buffer room cs word ∙ accepted-is
 
@@ -250,11 +224,3 @@ module _ (mode : Mode) (repeats : Repeats) (buffer bytes ends ids : List ℕ) (g
       list-answers mode repeats buffer room cs word
       ∙ none-due mode repeats n [] xs ids free-all
       ∙ ap (λ (k : ℕ). replicate k 0) (length-names bytes ends)
-
-  -- the list leaves these entries
-  left-all : Written mode repeats n es (afterList mode repeats buffer cs)
-  left-all = subst (λ (l : List Entry). Written mode repeats n l (afterList mode repeats buffer cs)) accepted-is (list-written mode repeats buffer room cs word)
-
-  -- one close gives the size of their image
-  pub size-all : closedSize (afterList mode repeats buffer (listed bytes ends ids)) ≡ imageSize mode (entriesListed (names bytes ends) ids)
-  size-all = written-size mode repeats n es (afterList mode repeats buffer cs) left-all

@@ -1,15 +1,14 @@
 -- The puts of a list from the i-th on, and what puts keep. Assumes nothing.
-use Prim.Native.Nat.{ℕ, suc, _+_, _-_, _≤_, _<_}
+use Prim.Native.Nat.{ℕ, _+_, _-_, _≤_, _<_}
 use native.Mathlib.Omega.{arith}
 use native.Mathlib.Numerals.{add-one}
 use mathlib.Core.Path.{_≡_, refl, sym, ap, ap₂, _∙_}
-use mathlib.Core.Bool.{Bool, true, false, cond}
 use mathlib.Core.List.{List, [], _∷_, _++_, append-nil, append-assoc}
 use lib.Dec.{eqb}
 use lib.ListN.{length, getD, drop, drop-of-length-le, length-append}
 use lib.Seq.{drop-cons, drop-drop}
 use Rattle.image.specs.declared.Mode.{Mode}
-use Rattle.image.specs.Image.{Entry, headSize, entrySize, entriesSize, backSize, imageSize}
+use Rattle.image.specs.Image.{Entry, entrySize, entriesSize, backSize, imageSize}
 use Rattle.image.proofs.Sizes.{entriesSize-append}
 use Rattle.image.specs.PackedNames.{nth}
 use Rattle.writer.specs.declared.Repeats.{Repeats}
@@ -20,6 +19,7 @@ use Rattle.lists.specs.Calls.{Call, put, after, acceptedFrom, putDue, puts}
 use Rattle.lists.proofs.Capacity.{back-rises}
 use Rattle.build.specs.Build.{callsOf}
 use Rattle.build.specs.steps.Steps.{entriesListed}
+use Rattle.serialize.proofs.Choices.{cond-holds}
 
 abbrev pub rest : List (List ℕ) → List ℕ → ℕ → List Call
 rest xs ids i = callsOf (drop i xs) (drop i ids)
@@ -39,31 +39,22 @@ rest-none xs ids i h = ap (λ (l : List (List ℕ)). callsOf l (drop i ids)) (dr
 
 pub entries-most : (s : State) (e : Entry) → afterPut s e .writer .entries ≤ s .writer .entries + 1
 unfolding afterPut appended writerAfterEntry writerAfterPut
-entries-most s e = go (eqb (putRefusal s e) 0)
-  where
-    go : (b : Bool) → cond b (appended s e) s .writer .entries ≤ s .writer .entries + 1
-    go true = omega arith
-    go false = omega arith
+entries-most s e = cond-holds (λ (t : State). t .writer .entries ≤ s .writer .entries + 1) (eqb (putRefusal s e) 0) (omega arith) (omega arith)
 
 end-most : (s : State) (e : Entry) → afterPut s e .writer .end ≤ s .writer .end + entrySize e
 unfolding afterPut appended writerAfterEntry writerAfterPut
-end-most s e = go (eqb (putRefusal s e) 0)
-  where
-    go : (b : Bool) → cond b (appended s e) s .writer .end ≤ s .writer .end + entrySize e
-    go true = omega arith
-    go false = omega arith
+end-most s e = cond-holds (λ (t : State). t .writer .end ≤ s .writer .end + entrySize e) (eqb (putRefusal s e) 0) (omega arith) (omega arith)
 
 -- ---- a put keeps every byte behind its entry
 
-pub put-keeps-from : (s : State) (e : Entry) (k : ℕ) → s .writer .end + entrySize e ≤ k → drop k (afterPut s e .buffer) ≡ drop k (s .buffer)
-put-keeps-from s e k h =
-    let m : ℕ = s .writer .end + entrySize e in
+-- bytes that are equal from a place on are so from a later one on
+pub drop-later : (a b : List ℕ) (m k : ℕ) → m ≤ k → drop m a ≡ drop m b → drop k a ≡ drop k b
+drop-later a b m k h e =
     let is : m + (k - m) ≡ k = omega arith in
-    ap (λ (j : ℕ). drop j (afterPut s e .buffer)) (sym is)
-    ∙ sym (drop-drop (k - m) m (afterPut s e .buffer))
-    ∙ ap (drop (k - m)) (put-keeps-behind s e)
-    ∙ drop-drop (k - m) m (s .buffer)
-    ∙ ap (λ (j : ℕ). drop j (s .buffer)) is
+    ap (λ (j : ℕ). drop j a) (sym is) ∙ sym (drop-drop (k - m) m a) ∙ ap (drop (k - m)) e ∙ drop-drop (k - m) m b ∙ ap (λ (j : ℕ). drop j b) is
+
+put-keeps-from : (s : State) (e : Entry) (k : ℕ) → s .writer .end + entrySize e ≤ k → drop k (afterPut s e .buffer) ≡ drop k (s .buffer)
+put-keeps-from s e k h = drop-later (afterPut s e .buffer) (s .buffer) (s .writer .end + entrySize e) k h (put-keeps-behind s e)
 
 -- and so the puts of a list, accepted or refused
 pub puts-keep : (s : State) (xs : List (List ℕ)) (ids : List ℕ) (k : ℕ) → s .writer .end + entriesSize (entriesListed xs ids) ≤ k
@@ -85,8 +76,8 @@ back-more (x ∷ es) e more = omega (arith, back-more es e more)
 size-more : (mode : Mode) (es : List Entry) (e : Entry) (more : List Entry) → imageSize mode (es ++ more) ≤ imageSize mode (es ++ e ∷ more)
 unfolding entriesSize
 size-more mode es e more =
-    omega
-    (arith, entriesSize-append es more, entriesSize-append es (e ∷ more), length-append es more, length-append es (e ∷ more), back-rises mode (backSize (es ++ more)) (backSize (es ++ e ∷ more)) (back-more es e more))
+    let backs = back-rises mode (backSize (es ++ more)) (backSize (es ++ e ∷ more)) (back-more es e more) in
+    omega (arith, entriesSize-append es more, entriesSize-append es (e ∷ more), length-append es more, length-append es (e ∷ more), backs)
 
 pub accepted-most : (mode : Mode) (repeats : Repeats) (n : ℕ) (es : List Entry) (xs : List (List ℕ)) (ids : List ℕ)
     → imageSize mode (acceptedFrom mode repeats n es (callsOf xs ids)) ≤ imageSize mode (es ++ entriesListed xs ids)
@@ -94,12 +85,10 @@ unfolding acceptedFrom callsOf puts
 accepted-most mode repeats n es [] ids = omega (arith, ap (imageSize mode) (append-nil es))
 accepted-most mode repeats n es (x ∷ xs) [] = omega (arith, ap (imageSize mode) (append-nil es))
 accepted-most mode repeats n es (x ∷ xs) (id ∷ ids) =
-    go (eqb (putDue mode repeats n es e) 0) (accepted-most mode repeats n (es ++ e ∷ []) xs ids) (accepted-most mode repeats n es xs ids)
-  where
-    e : Entry
-    e = entryOf x id
-
-    go : (b : Bool) → imageSize mode (acceptedFrom mode repeats n (es ++ e ∷ []) (callsOf xs ids)) ≤ imageSize mode ((es ++ e ∷ []) ++ entriesListed xs ids) → imageSize mode (acceptedFrom mode repeats n es (callsOf xs ids)) ≤ imageSize mode (es ++ entriesListed xs ids)
-        → imageSize mode (acceptedFrom mode repeats n (es ++ cond b (e ∷ []) []) (callsOf xs ids)) ≤ imageSize mode (es ++ e ∷ entriesListed xs ids)
-    go true more none = omega (arith, more, ap (imageSize mode) (append-assoc es (e ∷ []) (entriesListed xs ids)))
-    go false more none = omega (arith, ap (λ (l : List Entry). imageSize mode (acceptedFrom mode repeats n l (callsOf xs ids))) (append-nil es), none, size-more mode es e (entriesListed xs ids))
+    let e = entryOf x id in
+    let more = accepted-most mode repeats n (es ++ e ∷ []) xs ids in
+    let none = accepted-most mode repeats n es xs ids in
+    let same = ap (λ (l : List Entry). imageSize mode (acceptedFrom mode repeats n l (callsOf xs ids))) (append-nil es) in
+    cond-holds (λ (l : List Entry). imageSize mode (acceptedFrom mode repeats n (es ++ l) (callsOf xs ids)) ≤ imageSize mode (es ++ e ∷ entriesListed xs ids))
+    (eqb (putDue mode repeats n es e) 0) (omega (arith, more, ap (imageSize mode) (append-assoc es (e ∷ []) (entriesListed xs ids))))
+    (omega (arith, same, none, size-more mode es e (entriesListed xs ids)))

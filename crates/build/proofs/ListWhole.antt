@@ -2,15 +2,15 @@
 use Prim.Native.Nat.{ℕ, zero, suc, _+_, _-_, _^_, _≤_, _<_}
 use native.Mathlib.Omega.{arith}
 use native.Mathlib.Decide.{decLt}
-use mathlib.Core.Path.{_≡_, refl, sym, ap, ap₂, subst, _∙_}
+use mathlib.Core.Path.{_≡_, refl, sym, ap, ap₂, _∙_}
 use mathlib.Core.Bool.{Bool, true, false, _||_}
 use lib.Dec.{eqb}
 use mathlib.Core.List.{List, [], _∷_, _++_}
 use lib.ListN.{length, getD, take, drop, replicate, length-replicate, getD-replicate, length-drop, take-append-drop, List·getD-eq-default}
-use lib.Seq.{ext-getD, getD-take, getD-drop, length-take-le, drop-drop, drop-at}
+use lib.Seq.{ext-getD, getD-take, getD-drop, length-take-le, take-take, take-at, drop-at}
 use Rattle.image.specs.declared.Mode.{Mode}
 use Rattle.image.specs.Bytes.{same}
-use Rattle.image.specs.Image.{Entry, headSize, entriesSize, imageSize, image}
+use Rattle.image.specs.Image.{Entry, headSize, imageSize, image}
 use Rattle.image.specs.steps.Contracts.{Cleared}
 use Rattle.image.proofs.AllOfList.{All}
 use Rattle.image.proofs.Sizes.{length-image}
@@ -22,12 +22,12 @@ use Rattle.image.proofs.NameEnds.{length-names, nth-name, begin-next, begins-ri
 use Rattle.writer.specs.declared.CQDBWriter.{CQDBWriter}
 use Rattle.serialize.specs.steps.Meeting.{Pairwise, Distinct}
 use Rattle.writer.specs.declared.Repeats.{Repeats}
-use Rattle.writer.specs.declared.Repeats.the-variants.{On}
 use Rattle.writer.specs.State.{State, stateWith, fresh, refusesRepeats}
 use Rattle.writer.specs.Put.{entryOf}
 use Rattle.writer.specs.Close.{closeRefusal, closedSize, afterClose}
-use Rattle.lists.specs.Calls.{Call, accepted, acceptedFrom, due, sizeOf, puts, WordIds}
+use Rattle.lists.specs.Calls.{Call, accepted, due, sizeOf, puts, WordIds}
 use Rattle.lists.specs.Demand3.{answersOf, afterList, acceptedPuts, imageOf}
+use Rattle.lists.proofs.Appended.{sizeOf-is}
 use Rattle.lists.proofs.ListWritten.{Written}
 use Rattle.lists.proofs.ListCloses.{close-accepted, close-closed, closed-buffer}
 use Rattle.lists.proofs.CallLists.{list-accepted, list-written}
@@ -35,14 +35,14 @@ use Rattle.lists.proofs.Theorem.{calls-answered}
 use Rattle.build.specs.declared.Made.{Made}
 use Rattle.build.specs.declared.Built.{Built}
 use Rattle.build.specs.declared.Built.the-variants.{Image}
-use Rattle.build.specs.Build.{callsOf, listed, buildRefusal, madeOf, building}
+use Rattle.build.specs.Build.{listed, buildRefusal, madeOf}
 use Rattle.build.specs.steps.Capacity.{RoomForAll}
-use Rattle.build.specs.steps.Steps.{entriesListed, begunWith, ListPre, ListBuilt, KeptBehind, Finished}
+use Rattle.build.specs.steps.Steps.{begunWith, ListPre, ListBuilt, KeptBehind, Finished}
 use Rattle.build.specs.steps.Stores.{listEntries, NoZeros}
-use Rattle.build.proofs.Whole.{refusal-none, told-all, answers-are, built-made}
-use Rattle.build.proofs.Listed.{length-listed, nth-listed}
-use Rattle.build.proofs.CallsLeft.{puts-keep, accepted-most}
-use Rattle.build.proofs.AllPut.{number-all, names-all, word-ids, all-accepted-are, accepted-all, answers-none, size-all}
+use Rattle.build.proofs.Whole.{refusal-none, answers-are, built-made}
+use Rattle.build.proofs.Listed.{nth-listed}
+use Rattle.build.proofs.CallsLeft.{drop-later, puts-keep, accepted-most}
+use Rattle.build.proofs.AllPut.{number-all, word-ids, accepted-all, answers-none}
 
 -- ---- lists of words and of names
 
@@ -73,19 +73,13 @@ zero-free-drop zero l e = e
 zero-free-drop (suc n) [] e = refl
 zero-free-drop (suc n) (b ∷ l) e = zero-free-drop n l (or-false-second (eqb b 0) (hasZero l) e)
 
-take-front : (n m : ℕ) (l : List ℕ) → n ≤ m → take n (take m l) ≡ take n l
-take-front zero m l h = refl
-take-front (suc n) zero l h = absurd (omega arith)
-take-front (suc n) (suc m) [] h = refl
-take-front (suc n) (suc m) (x ∷ l) h = ap (λ (r : List ℕ). x ∷ r) (take-front n m l (omega arith))
-
 pub names-zero-free : (bytes ends : List ℕ) → invalidEnds (length bytes) 0 ends ≡ false → (last : ℕ) → last ≡ beginOf ends (length ends)
     → hasZero (take last bytes) ≡ false → NoZeros bytes ends
 names-zero-free bytes ends good last is e j h =
     let from = beginOf ends j in
     let to = getD ends j 0 in
     let up : to ≤ last = omega (arith, is, begin-next ends j, begins-rise (length bytes) ends good (length ends) (j + 1) (omega arith) (omega arith)) in
-    ap hasZero (nth-name bytes ends j h ∙ sym (between-same (take last bytes) bytes to (take-front to last bytes up) from))
+    ap hasZero (nth-name bytes ends j h ∙ sym (between-same (take last bytes) bytes to (take-take to last bytes up) from))
     ∙ zero-free-take (to - from) (drop from (take last bytes)) (zero-free-drop from (take last bytes) e)
 
 -- of each two in a list
@@ -100,19 +94,9 @@ pairwise-nth R (x ∷ xs) d two zero j h k = absurd (omega arith)
 pairwise-nth R (x ∷ xs) d two (suc i) zero h k = each-nth (R x) xs d (two .0) i (omega arith)
 pairwise-nth R (x ∷ xs) d two (suc i) (suc j) h k = pairwise-nth R xs d (two .1) i j (omega arith) (omega arith)
 
--- what stands behind some bytes of others
-drop-behind : (a l : List ℕ) (n k : ℕ) → length a ≡ n → n ≤ k → drop k (a ++ drop n l) ≡ drop k l
-drop-behind a l n k e h =
-    let is : n + (k - n) ≡ k = omega arith in
-    ap (λ (j : ℕ). drop j (a ++ drop n l)) (sym is)
-    ∙ sym (drop-drop (k - n) n (a ++ drop n l))
-    ∙ ap (drop (k - n)) (drop-at a (drop n l) n e)
-    ∙ drop-drop (k - n) n l
-    ∙ ap (λ (j : ℕ). drop j l) is
-
 -- a record that was begun is fresh
-pub begun-fresh : (mode : Mode) (repeats : Repeats) (buffer counts : List ℕ) (w : CQDBWriter) → counts ≡ replicate 256 0 → w ≡ begunWith mode repeats (length buffer)
-    → stateWith w counts buffer ≡ fresh (w .mode) (w .repeats) buffer
+pub begun-fresh : (mode : Mode) (repeats : Repeats) (buffer counts : List ℕ) (w : CQDBWriter) → counts ≡ replicate 256 0
+    → w ≡ begunWith mode repeats (length buffer) → stateWith w counts buffer ≡ fresh (w .mode) (w .repeats) buffer
 unfolding fresh
 begun-fresh mode repeats buffer counts w z e =
     ap₂ (λ (x : CQDBWriter) (c : List ℕ). stateWith x c buffer) e z ∙ sym (ap (λ (x : CQDBWriter). fresh (x .mode) (x .repeats) buffer) e)
@@ -124,16 +108,6 @@ all-zero l n e zeros i =
       | yes p ↦ zeros i p
       | no p ↦ List·getD-eq-default l 0 {n = i} (omega arith)
     ]
-
--- ---- two lists of the same accepted puts have one image
-
-module _ (mode : Mode) (r₁ r₂ : Repeats) (b₁ b₂ : List ℕ) (cs : List Call) (room₁ : headSize ≤ length b₁) (room₂ : headSize ≤ length b₂) (word : WordIds mode cs)
-    (alike : acceptedPuts mode r₁ b₁ cs ≡ acceptedPuts mode r₂ b₂ cs) where
-  pub size-alike : closedSize (afterList mode r₁ b₁ cs) ≡ closedSize (afterList mode r₂ b₂ cs)
-  size-alike = calls-answered mode r₁ b₁ cs room₁ word .sized ∙ ap (sizeOf mode) alike ∙ sym (calls-answered mode r₂ b₂ cs room₂ word .sized)
-
-  pub image-alike : imageOf mode r₁ b₁ cs ≡ imageOf mode r₂ b₂ cs
-  image-alike = calls-answered mode r₁ b₁ cs room₁ word .imaged ∙ ap (image mode) alike ∙ sym (calls-answered mode r₂ b₂ cs room₂ word .imaged)
 
 -- ---- the list
 
@@ -151,7 +125,7 @@ module _ (mode : Mode) (repeats : Repeats) {buffer bytes ends ids refusals : Lis
   word : WordIds mode cs
   word = word-ids mode (names bytes ends) ids (λ i h. words i (omega (arith, length-names bytes ends)))
 
-  pub left-written : Written mode repeats (length buffer) (accepted mode repeats (length buffer) (listed bytes ends ids)) (afterList mode repeats buffer (listed bytes ends ids))
+  left-written : Written mode repeats n (accepted mode repeats n cs) L
   left-written = list-written mode repeats buffer (pre .head-fits) cs word
 
   pub list-closes : {s : State} → s ≡ afterList mode repeats buffer (listed bytes ends ids) → closeRefusal s ≡ 0
@@ -169,27 +143,29 @@ module _ (mode : Mode) (repeats : Repeats) {buffer bytes ends ids refusals : Lis
       let most = accepted-most mode repeats n [] (names bytes ends) ids in
       ap (λ (t : State). drop k (t .buffer)) (close-closed mode repeats n es L left-written)
       ∙ ap (drop k) (closed-buffer mode repeats n es L left-written)
-      ∙ drop-behind (image mode es) (L .buffer) (imageSize mode es) k (length-image mode es) most
+      ∙ drop-later (image mode es ++ drop (imageSize mode es) (L .buffer)) (L .buffer) (imageSize mode es) k most
+      (drop-at (image mode es) (drop (imageSize mode es) (L .buffer)) (imageSize mode es) (length-image mode es))
       ∙ puts-keep (fresh mode repeats buffer) (names bytes ends) ids k (omega arith)
 
   -- one by one
-  pub list-built : {s : State} → s ≡ afterList mode repeats buffer (listed bytes ends ids) → {m : Made} {bufferThen refusalsThen : List ℕ} → Finished s m bufferThen
-      → refusalsThen ≡ answersOf mode repeats buffer (listed bytes ends ids) ++ drop (length ends) refusals
+  pub list-built : {s : State} → s ≡ afterList mode repeats buffer (listed bytes ends ids) → {m : Made} {bufferThen refusalsThen : List ℕ}
+      → Finished s m bufferThen → refusalsThen ≡ answersOf mode repeats buffer (listed bytes ends ids) ++ drop (length ends) refusals
       → ListBuilt mode repeats buffer bytes ends ids refusals (Image m) bufferThen refusalsThen
   unfolding imageOf
   list-built {s} is {m} {bufferThen} {refusalsThen} done told =
       let leaves = done .leaves ∙ ap (λ (t : State). afterClose t .buffer) is in
-      let counted = ap (λ (t : State). t .writer .entries) is ∙ left-written .entries ∙ ap length (sym (list-accepted mode repeats buffer (pre .head-fits) cs word)) in
+      let put = list-accepted mode repeats buffer (pre .head-fits) cs word in
+      let counted = ap (λ (t : State). t .writer .entries) is ∙ left-written .entries ∙ ap length (sym put) in
       record {
         gives = built-made mode repeats buffer bytes ends ids refusals ok m (done .size ∙ ap closedSize is) (done .accepted ∙ counted);
         imaged = ap (take (closedSize L)) leaves;
         behind = ap (drop (imageSize mode (puts cs))) leaves ∙ closed-behind;
-        answers = told-all mode repeats buffer bytes ends ids refusals ok refusalsThen told;
+        answers = told ∙ sym (answers-are mode repeats buffer bytes ends ids refusals ok);
       }
 
   -- after a trial that left what is behind an image of all names, and behind the answers
-  pub built-after : {buffer′ refusals′ : List ℕ} → length buffer′ ≡ length buffer → KeptBehind mode bytes ends ids buffer buffer′ → length refusals′ ≡ length refusals
-      → drop (length ends) refusals′ ≡ drop (length ends) refusals → {built : Built} {bufferThen refusalsThen : List ℕ}
+  pub built-after : {buffer′ refusals′ : List ℕ} → length buffer′ ≡ length buffer → KeptBehind mode bytes ends ids buffer buffer′
+      → length refusals′ ≡ length refusals → drop (length ends) refusals′ ≡ drop (length ends) refusals → {built : Built} {bufferThen refusalsThen : List ℕ}
       → ListBuilt mode repeats buffer′ bytes ends ids refusals′ built bufferThen refusalsThen
       → ListBuilt mode repeats buffer bytes ends ids refusals built bufferThen refusalsThen
   unfolding madeOf
@@ -203,93 +179,66 @@ module _ (mode : Mode) (repeats : Repeats) {buffer bytes ends ids refusals : Lis
       told′ .decided ∙ ap (λ (k : ℕ). accepted mode repeats k cs) size ∙ sym (told .decided) in
       let answered : answersOf mode repeats buffer′ cs ≡ answersOf mode repeats buffer cs =
       told′ .answered ∙ ap (λ (k : ℕ). due mode repeats k cs) size ∙ sym (told .answered) in
-      let sized = size-alike mode repeats repeats buffer′ buffer cs room′ (pre .head-fits) word alike in
+      let sized = told′ .sized ∙ ap (sizeOf mode) alike ∙ sym (told .sized) in
       let made = madeOf mode repeats buffer′ cs in
       record {
         gives =
             done .gives
             ∙ sym (built-made mode repeats buffer′ bytes ends ids refusals′ ok′ made refl refl)
             ∙ built-made mode repeats buffer bytes ends ids refusals ok made sized (ap length alike);
-        imaged =
-            ap (λ (k : ℕ). take k bufferThen) (sym sized) ∙ done .imaged ∙ image-alike mode repeats repeats buffer′ buffer cs room′ (pre .head-fits) word alike;
+        imaged = ap (λ (k : ℕ). take k bufferThen) (sym sized) ∙ done .imaged ∙ told′ .imaged ∙ ap (image mode) alike ∙ sym (told .imaged);
         behind = done .behind ∙ kept;
-        answers = told-all mode repeats buffer bytes ends ids refusals ok refusalsThen
-            (done .answers ∙ answers-are mode repeats buffer′ bytes ends ids refusals′ ok′ ∙ ap₂ {C = List ℕ} (λ (a b : List ℕ). a ++ b) answered tail);
+        answers =
+            done .answers
+            ∙ answers-are mode repeats buffer′ bytes ends ids refusals′ ok′
+            ∙ ap₂ {C = List ℕ} (λ (a b : List ℕ). a ++ b) answered tail
+            ∙ sym (answers-are mode repeats buffer bytes ends ids refusals ok);
       }
 
--- ---- the direct path: the list was put with repeats on
+-- ---- the direct path: no put is refused
 
-module _ (mode : Mode) {buffer bytes ends ids refusals : List ℕ} (pre : ListPre buffer bytes ends ids refusals) (fits : RoomForAll mode ends ids (length buffer))
-    (words : (i : ℕ) → i < length ends → getD ids i 0 < 2 ^ 32) (clean : NoZeros bytes ends) where
+module _ (mode : Mode) (repeats : Repeats) {buffer bytes ends ids refusals : List ℕ} (pre : ListPre buffer bytes ends ids refusals)
+    (fits : RoomForAll mode ends ids (length buffer)) (words : (i : ℕ) → i < length ends → getD ids i 0 < 2 ^ 32) (clean : NoZeros bytes ends) where
   abbrev es : List Entry
   es = listEntries bytes ends ids
 
-  -- the entries are all names
-  pub all-put : accepted mode On (length buffer) (listed bytes ends ids) ≡ listEntries bytes ends ids
-  all-put =
-      all-accepted-are mode On buffer bytes ends ids (pre .packed) (pre .ids-long) (pre .head-fits) fits words clean
-      (λ off. let z : _≡_ {A = ℕ} 0 1 = ap one off in absurd (omega arith))
-    where
-      one : Bool → ℕ
-      one true = 1
-      one false = 0
-
-  -- one close leaves their image, and gives its size
-  pub left-image : {b : List ℕ} → b ≡ image mode (listEntries bytes ends ids) ++ drop (imageSize mode (listEntries bytes ends ids)) buffer
-      → b ≡ afterClose (afterList mode On buffer (listed bytes ends ids)) .buffer
-  unfolding fresh
-  left-image e =
-      let n = length buffer in
-      let L = afterList mode On buffer (listed bytes ends ids) in
-      let put = accepted mode On n (listed bytes ends ids) in
-      let left = left-written mode On pre words in
-      e
-      ∙ sym
-      (ap (λ (t : State). t .buffer) (close-closed mode On n put L left)
-      ∙ closed-buffer mode On n put L left
-      ∙ ap (λ (l : List Entry). image mode l ++ drop (imageSize mode l) (L .buffer)) all-put
-      ∙ ap (λ (l : List ℕ). image mode es ++ l) (puts-keep (fresh mode On buffer) (names bytes ends) ids (imageSize mode es) (omega arith)))
-
-  pub left-size : closedSize (afterList mode On buffer (listed bytes ends ids)) ≡ imageSize mode (listEntries bytes ends ids)
-  left-size =
-      size-all mode On buffer bytes ends ids (pre .packed) (pre .ids-long) (pre .head-fits) fits words clean
-      (λ off. let z : _≡_ {A = ℕ} 0 1 = ap one off in absurd (omega arith))
-    where
-      one : Bool → ℕ
-      one true = 1
-      one false = 0
-
-  distinct-names : Distinct (listEntries bytes ends ids) → (i j : ℕ) → j < i → i < length ends → same (nth (names bytes ends) j) (nth (names bytes ends) i) ≡ false
+  distinct-names : Distinct (listEntries bytes ends ids) → (i j : ℕ) → j < i → i < length ends
+      → same (nth (names bytes ends) j) (nth (names bytes ends) i) ≡ false
   distinct-names two i j h k =
       let number = number-all bytes ends ids (pre .packed) (pre .ids-long) in
       let many : length (names bytes ends) ≤ length ids = omega (arith, length-names bytes ends, pre .ids-long) in
       let none = entryOf [] 0 in
       let its : (m : ℕ) → m < length ends → getD es m none .name ≡ nth (names bytes ends) m = λ m b.
       ap (λ (e : Entry). e .name) (nth-listed (names bytes ends) ids m none many (omega (arith, length-names bytes ends))) in
-      ap₂ same (sym (its j (omega arith))) (sym (its i k)) ∙ pairwise-nth (λ (x y : Entry). same (x .name) (y .name) ≡ false) es none two i j h (omega (arith, number))
+      ap₂ same (sym (its j (omega arith))) (sym (its i k))
+      ∙ pairwise-nth (λ (x y : Entry). same (x .name) (y .name) ≡ false) es none two i j h (omega (arith, number))
 
-  pub all-built : (repeats : Repeats) → (refusesRepeats repeats ≡ true → Distinct (listEntries bytes ends ids)) → {size : ℕ} {bufferThen refusalsThen : List ℕ}
-      → size ≡ closedSize (afterList mode On buffer (listed bytes ends ids)) → bufferThen ≡ afterClose (afterList mode On buffer (listed bytes ends ids)) .buffer
-      → refusalsThen ≡ replicate (length ends) 0 ++ drop (length ends) refusals
+  pub all-built : (refusesRepeats repeats ≡ true → Distinct (listEntries bytes ends ids)) → {size : ℕ} {bufferThen refusalsThen : List ℕ}
+      → size ≡ imageSize mode (listEntries bytes ends ids)
+      → bufferThen ≡ image mode (listEntries bytes ends ids) ++ drop (imageSize mode (listEntries bytes ends ids)) buffer
+      → KeptBehind mode bytes ends ids buffer bufferThen → refusalsThen ≡ replicate (length ends) 0 ++ drop (length ends) refusals
       → ListBuilt mode repeats buffer bytes ends ids refusals (Image (record { size = size; accepted = length ends })) bufferThen refusalsThen
-  unfolding imageOf
-  all-built repeats apart {size} {bufferThen} {refusalsThen} sized leaves cleared =
+  all-built apart {size} sized leaves behind cleared =
       let good = pre .packed in
       let many = pre .ids-long in
       let room = pre .head-fits in
       let cs = listed bytes ends ids in
       let word = word-ids mode (names bytes ends) ids (λ i h. words i (omega (arith, length-names bytes ends))) in
-      let distinct : refusesRepeats repeats ≡ true → (i j : ℕ) → j < i → i < length ends → same (nth (names bytes ends) j) (nth (names bytes ends) i) ≡ false = λ off. distinct-names (apart off) in
-      let all = accepted-all mode repeats buffer bytes ends ids good many room fits words clean distinct in
-      let alike : acceptedPuts mode On buffer cs ≡ acceptedPuts mode repeats buffer cs = list-accepted mode On buffer room cs word ∙ all-put ∙ sym all in
-      let same-size = size-alike mode On repeats buffer buffer cs room room word alike in
+      let told = calls-answered mode repeats buffer cs room word in
+      let all = accepted-all mode repeats buffer bytes ends ids good many room fits words clean (λ off. distinct-names (apart off)) in
+      let size-is : closedSize (afterList mode repeats buffer cs) ≡ imageSize mode es = told .sized ∙ ap (sizeOf mode) all ∙ sizeOf-is mode es in
       let ok = refusal-none bytes ends (length ids) (length refusals) (length buffer) good many (pre .refusals-long) room in
       record {
         gives = built-made mode repeats buffer bytes ends ids refusals ok (record { size = size; accepted = length ends })
-            (sized ∙ same-size) (sym (ap length all ∙ number-all bytes ends ids good many));
+            (sized ∙ sym size-is) (sym (ap length all ∙ number-all bytes ends ids good many));
         imaged =
-            ap₂ take (sym same-size) leaves ∙ image-alike mode On repeats buffer buffer cs room room word alike;
-        behind = ap (drop (imageSize mode (puts cs))) leaves ∙ closed-behind mode On pre words;
-        answers = told-all mode repeats buffer bytes ends ids refusals ok refusalsThen
-            (cleared ∙ ap (λ (l : List ℕ). l ++ drop (length ends) refusals) (sym (answers-none mode repeats buffer bytes ends ids good many room fits words clean distinct)));
+            ap₂ take size-is leaves
+            ∙ take-at (image mode es) (drop (imageSize mode es) buffer) (imageSize mode es) (length-image mode es)
+            ∙ sym (told .imaged ∙ ap (image mode) all);
+        behind = behind;
+        answers =
+            cleared
+            ∙ ap (λ (l : List ℕ). l ++ drop (length ends) refusals)
+            (sym (answers-none mode repeats buffer bytes ends ids good many room fits words clean (λ off. distinct-names (apart off))))
+            ∙ sym (answers-are mode repeats buffer bytes ends ids refusals ok);
       }

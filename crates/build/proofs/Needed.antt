@@ -118,7 +118,8 @@ size-most : (mode : Mode) (bytes ends ids : List ℕ) → invalidEnds (length by
     → sizeOf mode (puts (listed bytes ends ids)) ≤ headSize + length bytes + 25 * length ids + 4 * backIn mode (idsBack ids)
 unfolding sizeOf names
 size-most mode bytes ends ids good =
-    omega (arith, puts-most bytes 0 ends ids (omega arith) good, back-rises mode (backSize (puts (listed bytes ends ids))) (idsBack ids) (back-most (names bytes ends) ids))
+    let backs = back-rises mode (backSize (puts (listed bytes ends ids))) (idsBack ids) (back-most (names bytes ends) ids) in
+    omega (arith, puts-most bytes 0 ends ids (omega arith) good, backs)
 
 none-refused : (mode : Mode) (repeats : Repeats) (buffer bytes ends ids : List ℕ) → invalidEnds (length bytes) 0 ends ≡ false
     → WordIds mode (listed bytes ends ids) → bytesNeeded mode (length bytes) ids ≤ length buffer → bytesNeeded mode (length bytes) ids ≤ 4294967295
@@ -140,7 +141,9 @@ puts-joined (x ∷ xs) (id ∷ ids) h = omega (arith, puts-joined xs ids (omega 
 exact : (mode : Mode) (xs : List (List ℕ)) (ids : List ℕ) → length xs ≡ length ids
     → bytesNeeded mode (length (packedBytes xs)) ids ≡ atMost (sizeOf mode (puts (callsOf xs ids)))
 unfolding bytesNeeded sizeOf
-exact mode xs ids h = omega (arith, puts-joined xs ids h, ap (backIn mode) (back-listed xs ids (omega arith)), ap (λ (l : List ℕ). backIn mode (idsBack l)) (take-all (length xs) ids (omega arith)))
+exact mode xs ids h =
+    let whole = take-all (length xs) ids (omega arith) in
+    omega (arith, puts-joined xs ids h, ap (backIn mode) (back-listed xs ids (omega arith)), ap (λ (l : List ℕ). backIn mode (idsBack l)) whole)
 
 pub needs-hold : NeedsHold
 needs-hold = record { none-refused = none-refused; exact = exact }

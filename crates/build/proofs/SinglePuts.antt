@@ -3,9 +3,9 @@ use Prim.Native.Nat.{ℕ, _+_, _≤_, _<_}
 use native.Mathlib.Omega.{arith}
 use native.Mathlib.Numerals.{add-one}
 use mathlib.Core.Path.{_≡_, refl, sym, ap, ap₂, subst, _∙_}
-use mathlib.Core.Bool.{Bool, true, false, cond, _&&_, and-false}
+use mathlib.Core.Bool.{Bool, cond, _&&_, and-false}
 use mathlib.Core.List.{List, [], _∷_, _++_, append-assoc, append-nil}
-use lib.Dec.{eqb, leb}
+use lib.Dec.{eqb}
 use lib.ListN.{length, getD, set, take, drop, length-set, take-append-drop}
 use lib.Seq.{take-suc-set, drop-set-lt}
 use borrow.Author.Tests.{lt-leb}
@@ -27,7 +27,8 @@ use Rattle.build.proofs.CallsLeft.{rest, rest-cons, rest-none, entries-
 -- ---- one put
 
 -- by the rule, without slots
-pub by-rule : {s : State} {slots : List ℕ} {e : Entry} {r : ℕ} {then : State} → length slots ≡ 0 → r ≡ putRefusal s e → then ≡ afterPut s e → PutPost s slots e r then slots
+pub by-rule : {s : State} {slots : List ℕ} {e : Entry} {r : ℕ} {then : State} → length slots ≡ 0 → r ≡ putRefusal s e
+    → then ≡ afterPut s e → PutPost s slots e r then slots
 by-rule none answer leaves = record { answer = answer; leaves = leaves; index = λ some. absurd (omega (arith, none, some)) }
 
 -- by an index with an empty slot
@@ -113,7 +114,8 @@ module _ {mode : Mode} {repeats : Repeats} {buffer : List ℕ} {xs : List (List 
       told-next : take (i + 1) (set refusals i r) ++ answers s' more ≡ answersOf mode repeats buffer (callsOf xs ids)
       unfolding answers
       told-next =
-          ap₂ {C = List ℕ} (λ (a b : List ℕ). a ++ b) (ap (λ (k : ℕ). take k (set refusals i r)) (add-one i) ∙ take-suc-set refusals i r (omega (arith, inside, room)))
+          ap₂ {C = List ℕ} (λ (a b : List ℕ). a ++ b)
+          (ap (λ (k : ℕ). take k (set refusals i r)) (add-one i) ∙ take-suc-set refusals i r (omega (arith, inside, room)))
           (ap (λ (u : State). answers u more) next)
           ∙ append-assoc (take i refusals) (r ∷ []) (answers (afterPut s e) more)
           ∙ ap (λ (k : ℕ). take i refusals ++ (k ∷ answers (afterPut s e) more)) r-is

@@ -5,9 +5,10 @@ use native.Mathlib.Numerals.{add-one}
 use native.Mathlib.Decide.{ℕ-discrete}
 use native.Mathlib.Nat.{mod-lt}
 use mathlib.Core.Path.{_≡_, refl, sym, ap, ap₂, subst, _∙_}
-use mathlib.Core.Bool.{Bool, true, false, _||_}
+use mathlib.Core.Bool.{Bool, _||_, or-false, or-assoc}
 use mathlib.Core.List.{List, [], _∷_, _++_, append-nil, append-assoc}
-use lib.ListN.{length, getD, set, take, drop, replicate, length-set, length-append, length-drop, length-take, length-replicate, getD-replicate, drop-of-length-le}
+use lib.ListN.{length, getD, set, take, drop, replicate, length-set, length-append, length-drop, length-take, length-replicate}
+use lib.ListN.{getD-replicate, drop-of-length-le}
 use lib.Seq.{sets, sets-eq, take-all, take-suc, split-at, getD-set-same, getD-set-other, drop-set-lt, drop-drop, drop-cons}
 use lib.Dec.{eqb}
 use Rattle.jhash.specs.NameHash.{hashOf, hashOrZero}
@@ -17,7 +18,8 @@ use Rattle.image.specs.Bytes.{cat, range}
 use Rattle.image.specs.Tables.{tableOf}
 use Rattle.image.specs.Zero.{hasZero}
 use Rattle.image.specs.Tally.{raisedCounts}
-use Rattle.image.specs.Image.{Entry, headSize, entryBytes, entriesSize, placed, count, backWords, backSizeOf, backOffset, entriesEnd, imageSize, headWords, tableRows}
+use Rattle.image.specs.Image.{Entry, headSize, entryBytes, entriesSize, placed, count, backWords, backSizeOf, backOffset, entriesEnd, imageSize}
+use Rattle.image.specs.Image.{headWords, tableRows}
 use Rattle.image.proofs.AllOfList.{All}
 use Rattle.image.proofs.Lists.{cat-append}
 use Rattle.image.proofs.Parts.{placedIn}
@@ -44,22 +46,14 @@ unfolding hasZero
 any-zero-step bytes i b x h p =
     let e : suc i ≡ i + 1 = omega arith in
     let z = eqb (getD bytes i 0) 0 in
-    assoc b z (hasZero (drop (i + 1) bytes))
+    or-assoc b z (hasZero (drop (i + 1) bytes))
     ∙ ap (λ (k : ℕ). b || (z || hasZero (drop k bytes))) (sym e)
     ∙ sym (ap (λ (l : List ℕ). b || hasZero l) (drop-cons bytes i 0 h))
     ∙ p
-  where
-    assoc : (a b c : Bool) → ((a || b) || c) ≡ (a || (b || c))
-    assoc true b c = refl
-    assoc false b c = refl
 
 pub any-zero-end : (bytes : List ℕ) (i : ℕ) (b x : Bool) → length bytes ≤ i → (b || hasZero (drop i bytes)) ≡ x → b ≡ x
 unfolding hasZero
-any-zero-end bytes i b x h p = none b (ap (λ (l : List ℕ). b || hasZero l) (sym (drop-of-length-le bytes {i = i} h)) ∙ p)
-  where
-    none : (b : Bool) → (b || false) ≡ x → b ≡ x
-    none true q = q
-    none false q = q
+any-zero-end bytes i b x h p = sym (or-false b) ∙ ap (λ (l : List ℕ). b || hasZero l) (sym (drop-of-length-le bytes {i = i} h)) ∙ p
 
 -- ---- the first entries and the next one
 
@@ -82,7 +76,8 @@ module _ (bytes ends ids : List ℕ) (many : length ends ≤ length ids) where
     pub next-entry : take (i + 1) (listEntries bytes ends ids) ≡ take i (listEntries bytes ends ids) ++ entryOf name (getD ids i 0) ∷ []
     next-entry = ap (λ (m : ℕ). take m es) (add-one i) ∙ take-suc es i (entryOf [] 0) (omega (arith, number)) ∙ ap (λ (x : Entry). take i es ++ (x ∷ [])) there
 
-    pub split-there : listEntries bytes ends ids ≡ take i (listEntries bytes ends ids) ++ entryOf name (getD ids i 0) ∷ drop (suc i) (listEntries bytes ends ids)
+    pub split-there : listEntries bytes ends ids
+        ≡ take i (listEntries bytes ends ids) ++ entryOf name (getD ids i 0) ∷ drop (suc i) (listEntries bytes ends ids)
     split-there = split-at es i (entryOf [] 0) (omega (arith, number)) ∙ ap (λ (x : Entry). take i es ++ x ∷ drop (suc i) es) there
 
 -- ---- hashes and counts
@@ -126,8 +121,9 @@ module _ {bytes ends hashes₀ counts₀ : List ℕ} (pre : HashListPre bytes en
       pub count-word : getD counts (tableOf h) 0 < 4294967295
       count-word =
           let qs = take i (listEntries bytes ends ends) in
-          omega
-          (arith, g .tallies ends (omega arith) (tableOf h) (mod-lt h (omega arith)), count-within (tableOf h) (placed headSize qs), length-placed headSize qs, length-take i (listEntries bytes ends ends), pre .number-word)
+          let few = length-take i (listEntries bytes ends ends) in
+          let tallied = g .tallies ends (omega arith) (tableOf h) (mod-lt h (omega arith)) in
+          omega (arith, tallied, count-within (tableOf h) (placed headSize qs), length-placed headSize qs, few, pre .number-word)
 
       raised : (qs : List Entry) (e : Entry) → h ≡ hashOf (e .name) → Tallied counts qs → Tallied (raisedCounts counts h) (qs ++ e ∷ [])
       unfolding raisedCounts

@@ -1,5 +1,5 @@
 -- What is proved of a whole list. Assumes nothing.
-use mathlib.Core.Path.{_≡_, refl, sym, ap, _∙_}
+use mathlib.Core.Path.{refl, sym, ap, _∙_}
 use lib.ListN.{length}
 use Rattle.lists.proofs.Theorem.{one-list, calls-answered}
 use Rattle.lists.proofs.Appended.{sizeOf-is}
@@ -17,7 +17,7 @@ build-holds =
       answered = λ mode repeats buffer bytes ends ids room word. calls-answered mode repeats buffer (listed bytes ends ids) room word;
       refused-kept = λ mode repeats buffer bytes ends ids places bufferThen k e left.
           let some = refused-some mode repeats buffer bytes ends ids (length places) k e in
-          let out = refused-build mode repeats buffer bytes ends ids places _ refl some in
-          (left .refused some, sym (out .2));
+          let out = refused-build mode repeats buffer bytes ends ids places _ refl some some in
+          (left .refused some, sym (out .1 .1 .0));
       kept-from = λ mode xs ids same. needs-hold .exact mode xs ids same ∙ ap atMost (sizeOf-is mode (puts (callsOf xs ids)));
     }

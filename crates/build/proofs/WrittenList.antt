@@ -3,30 +3,34 @@ use Prim.Native.Nat.{ℕ, suc, _+_, _*_, _-_, _^_, _≤_, _<_}
 use native.Mathlib.Omega.{arith}
 use mathlib.Core.Path.{_≡_, refl, sym, ap, ap₂, subst, _∙_}
 use mathlib.Core.Bool.{Bool, false}
-use mathlib.Core.List.{List, [], _∷_, _++_}
-use lib.ListN.{length, getD, take, drop, replicate}
-use lib.Seq.{sets, take-all}
+use mathlib.Core.List.{List, [], _∷_, _++_, append-nil}
+use lib.ListN.{length, getD, take, drop, replicate, length-append, length-drop}
+use lib.Seq.{sets, take-all, take-append-seam, drop-at}
 use Rattle.jhash.specs.NameHash.{hashOf}
 use Rattle.image.specs.declared.Mode.{Mode}
 use Rattle.image.specs.Stored.{between}
-use Rattle.image.specs.Image.{Entry, headSize, entryBytes, entriesSize, backIn, backSize, backSizeOf, backOffset, entriesEnd, imageSize, headWords, tableRows, backWords}
+use Rattle.image.specs.Bytes.{cat, range}
+use Rattle.image.specs.Image.{Entry, headSize, entryBytes, entriesSize, backIn, backSize, backSizeOf, backOffset, entriesEnd, imageSize, image}
+use Rattle.image.specs.Image.{headWords, tableRows, backWords}
 use Rattle.image.proofs.AllOfList.{All}
 use Rattle.image.proofs.Between.{length-between}
 use Rattle.image.proofs.Parts.{placedIn}
-use Rattle.image.proofs.Sizes.{entriesSize-append, length-placed, backIn-twice}
+use Rattle.image.proofs.Sizes.{entriesSize-append, length-placed, length-backWords, backIn-twice}
 use Rattle.image.specs.PackedNames.{names, nth, invalidEnds, beginOf}
 use Rattle.image.proofs.NameEnds.{length-names, nth-name, placed, begin-later, begin-next, begins-rise}
 use Rattle.serialize.specs.steps.Partition.{tableOffsetsFrom, EntryPartitioned}
 use Rattle.serialize.specs.steps.Written.{begunImage}
 use Rattle.serialize.specs.steps.Meeting.{AllDone}
 use Rattle.serialize.proofs.Cleared.{Numbers, size-is, begun-is}
-use Rattle.serialize.proofs.WrittenImage.{Imaged, all-imaged, all-told}
+use Rattle.serialize.proofs.PartialImage.{upToEntries, length-upToEntries}
+use Rattle.serialize.proofs.TablesFilled.{filling, filledTo, tables-long}
+use Rattle.serialize.proofs.WrittenImage.{all-imaged, all-told}
 use Rattle.writer.specs.Put.{entryOf}
 use Rattle.lists.specs.Calls.{puts}
 use Rattle.build.specs.Build.{callsOf}
 use Rattle.build.specs.Needs.{idsBack}
 use Rattle.build.specs.steps.Steps.{entriesListed}
-use Rattle.build.specs.steps.Stores.{listEntries, WriteListPre}
+use Rattle.build.specs.steps.Stores.{listEntries, WriteListPre, ListWritten}
 use Rattle.build.proofs.AllPut.{number-all, end-all, back-is, size-within, size-small}
 use Rattle.build.proofs.StoredAll.{next-entry, split-there, StoringTo, storing-first, storing-last, storing-step}
 
@@ -35,14 +39,35 @@ pub names-short : (bytes ends : List ℕ) → invalidEnds (length bytes) 0 ends 
     → (j : ℕ) → j < length ends → length (nth (names bytes ends) j) < 4294967295
 names-short bytes ends good small j h =
     let p = placed (length bytes) ends j good h in
-    omega
-    (arith, ap length (nth-name bytes ends j h) ∙ length-between bytes (beginOf ends j) (getD ends j 0) (p .rises) (p .inside), begin-next ends j, begins-rise (length bytes) ends good (length ends) (j + 1) (omega arith) (omega arith))
+    let size = ap length (nth-name bytes ends j h) ∙ length-between bytes (beginOf ends j) (getD ends j 0) (p .rises) (p .inside) in
+    omega (arith, size, begin-next ends j, begins-rise (length bytes) ends good (length ends) (j + 1) (omega arith) (omega arith))
 
-ids-listed : (xs : List (List ℕ)) (ids : List ℕ) → ((i : ℕ) → i < length xs → getD ids i 0 < 2 ^ 32) → All (λ (e : Entry). e .id < 2 ^ 32) (entriesListed xs ids)
+ids-listed : (xs : List (List ℕ)) (ids : List ℕ) → ((i : ℕ) → i < length xs → getD ids i 0 < 2 ^ 32)
+    → All (λ (e : Entry). e .id < 2 ^ 32) (entriesListed xs ids)
 unfolding callsOf puts
 ids-listed [] ids h = tt
 ids-listed (x ∷ xs) [] h = tt
 ids-listed (x ∷ xs) (id ∷ ids) h = (h 0 (omega arith), ids-listed xs ids (λ i k. h (suc i) (omega arith)))
+
+-- bytes put back before what was behind them
+pub length-back : (a b : List ℕ) (n : ℕ) → length a ≡ n → n ≤ length b → length (a ++ drop n b) ≡ length b
+length-back a b n e h = omega (arith, length-append a (drop n b), length-drop n b)
+
+-- an image whose tables hold their pairs, before what is behind it
+image-parts : (mode : Mode) (es : List Entry) (X tail : List ℕ) → length X ≡ 16 * length (placedIn es) → (n : ℕ) → n ≡ imageSize mode es
+    → (take n (filledTo mode es X 0 tail) ≡ filledTo mode es X 0 []) × (drop n (filledTo mode es X 0 tail) ≡ tail)
+unfolding filledTo
+image-parts mode es X tail long n size =
+    let U = upToEntries mode es in
+    let R = cat (filling (placedIn es) X 0) (range 0 256) in
+    let L = backWords (placedIn es) (backSizeOf mode es) in
+    let size-of = tables-long mode es X tail long 0 in
+    let words = length-backWords (placedIn es) (backSizeOf mode es) in
+    let whole : length (U ++ R ++ L) ≡ n =
+    omega (arith, size, length-append (U ++ R) L, length-append U R, length-upToEntries mode es, size-of, words) in (
+      ap (λ (k : ℕ). take k (U ++ R ++ L ++ tail)) (sym whole) ∙ take-append-seam (U ++ R ++ L) tail ∙ sym (append-nil (U ++ R ++ L)),
+      drop-at (U ++ R ++ L) tail n whole,
+    )
 
 -- an image of es that was begun: what stands in the place of the entries, of the tables, and behind the image
 pub record Begun (mode : Mode) (es : List Entry) (b0 E X tail : List ℕ) : Type 0 where
@@ -93,19 +118,12 @@ module _ {mode : Mode} {counts hashes buffer bytes ends ids : List ℕ} (pre : W
   ids-all = ids-listed (names bytes ends) ids (λ i h. words i (omega (arith, length-names bytes ends)))
 
   room : length E ≡ entriesSize es
-  room =
-      length-between buffer headSize (entriesEnd es) (omega arith) (omega (arith, within)) ∙ same (entriesSize es)
-    where
-      same : (n : ℕ) → headSize + n - headSize ≡ n
-      same n = omega arith
+  room = omega (arith, length-between buffer headSize (entriesEnd es) (omega arith) (omega (arith, within)))
 
   area : length X ≡ 16 * length (placedIn es)
   area =
-      length-between buffer (entriesEnd es) (entriesEnd es + 16 * length es) (omega arith) (omega (arith, within))
-      ∙ same (entriesEnd es) (length es) (length-placed headSize es)
-    where
-      same : (a n : ℕ) {m : ℕ} → m ≡ n → a + 16 * n - a ≡ 16 * m
-      same a n e = omega arith
+      let end = entriesEnd es in
+      omega (arith, length-between buffer end (end + 16 * length es) (omega arith) (omega (arith, within)), length-placed headSize es)
 
   pub numbers : {end entries back : ℕ} → end ≡ entriesEnd (listEntries bytes ends ids) → entries ≡ length (listEntries bytes ends ids)
       → back ≡ backSizeOf mode (listEntries bytes ends ids) → Numbers mode end entries back counts buffer (listEntries bytes ends ids)
@@ -160,9 +178,9 @@ module _ {mode : Mode} {counts hashes buffer bytes ends ids : List ℕ} (pre : W
       unfolding entriesSize
       turn-room = omega (arith, g .offset, ap entriesSize split ∙ entriesSize-append (take i es) (e ∷ drop (suc i) es))
 
-      pub turn-step : {b1 b2 places′ : List ℕ} → b1 ≡ sets buf at (entryBytes (entryOf name (getD ids i 0))) → {l h : ℕ} → l ≡ backOffset mode (listEntries bytes ends ids)
-          → h ≡ getD hashes i 0 → EntryPartitioned mode l at (getD ids i 0) h places b1 places′ b2 → length b2 ≡ length b0
-          → Turn mode b0 bytes ends ids b2 places′ (at + (9 + length name)) (i + 1)
+      pub turn-step : {b1 b2 places′ : List ℕ} → b1 ≡ sets buf at (entryBytes (entryOf name (getD ids i 0))) → {l h : ℕ}
+          → l ≡ backOffset mode (listEntries bytes ends ids) → h ≡ getD hashes i 0 → EntryPartitioned mode l at (getD ids i 0) h places b1 places′ b2
+          → length b2 ≡ length b0 → Turn mode b0 bytes ends ids b2 places′ (at + (9 + length name)) (i + 1)
       unfolding entriesSize
       turn-step {b1} {b2} {places′} e1 el eh done same =
           let next = next-entry bytes ends ids (pre .list .ids-long) i below name named in
@@ -175,12 +193,24 @@ module _ {mode : Mode} {counts hashes buffer bytes ends ids : List ℕ} (pre : W
                 (eh ∙ pre .hashed i below ∙ ap hashOf (sym named)) done);
           }
 
-    pub turn-last : length ends ≤ i → {l end entries back n : ℕ} {after : List ℕ} {met : Bool} → l ≡ backOffset mode (listEntries bytes ends ids)
-        → end ≡ entriesEnd (listEntries bytes ends ids) → entries ≡ length (listEntries bytes ends ids) → back ≡ backSizeOf mode (listEntries bytes ends ids)
-        → n ≡ imageSize mode (listEntries bytes ends ids) → b0 ≡ begunImage mode end entries back counts buffer → AllDone mode l end entries n counts buf after met
-        → Imaged mode (listEntries bytes ends ids) (drop (imageSize mode (listEntries bytes ends ids)) buffer) after met
-    turn-last last el ee en eb size e0 done =
-        all-imaged mode es tail small ids-all X counts area (pre .tallies)
-        (storing-last mode es E X tail room area
-        (subst (λ (qs : List Entry). StoringTo mode es E X tail qs buf places at) (take-all i es (omega (arith, as-many))) (g .storing E X tail (begun ee en eb e0))))
-        (all-told counts buf el ee en size done)
+    -- the tables are filled in the bytes of the image
+    pub turn-last : length ends ≤ i → {stop : Bool} {l end entries back n : ℕ} {after : List ℕ} {met : Bool}
+        → l ≡ backOffset mode (listEntries bytes ends ids) → end ≡ entriesEnd (listEntries bytes ends ids)
+        → entries ≡ length (listEntries bytes ends ids) → back ≡ backSizeOf mode (listEntries bytes ends ids)
+        → n ≡ imageSize mode (listEntries bytes ends ids) → b0 ≡ begunImage mode end entries back counts buffer
+        → AllDone stop mode l end entries n counts (take n buf) after met → length after ≡ n
+        → ListWritten stop mode buffer bytes ends ids n met (after ++ drop n buf)
+    turn-last last {n = n} {after} el ee en eb size e0 done long =
+        let all = take-all i es (omega (arith, as-many)) in
+        let is = storing-last mode es E X tail room area
+        (subst (λ (qs : List Entry). StoringTo mode es E X tail qs buf places at) all (g .storing E X tail (begun ee en eb e0))) in
+        let parts = image-parts mode es X tail area n size in
+        let made = all-imaged mode es [] small ids-all X counts area (pre .tallies) (ap (take n) is ∙ parts .0)
+        (all-told el ee en size done) in
+        let rest = ap (drop n) is ∙ parts .1 in
+        record {
+          sized = size;
+          leaves = λ on. ap₂ (λ (x y : List ℕ). x ++ y) (made .is on ∙ append-nil (image mode es)) rest;
+          behind = drop-at after (drop n buf) (imageSize mode es) (long ∙ size) ∙ rest;
+          distinct = made .distinct;
+        }

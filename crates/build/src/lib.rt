@@ -138,6 +138,7 @@ fn build_direct(
     }
     let mut counts = [0; 256];
     hash_list(bytes, ends, &mut *refusals, &mut counts);
+    let stop = refuses(repeats);
     let written = write_list(
         mode,
         &counts,
@@ -147,8 +148,9 @@ fn build_direct(
         ends,
         ids,
         &mut *scratch,
+        stop,
     );
-    if refuses(repeats) && written.met {
+    if stop & written.met {
         return 0;
     }
     clear_words(&mut *refusals, n);

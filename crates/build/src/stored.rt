@@ -18,7 +18,8 @@ pub(crate) struct WrittenList {
 }
 
 // Writes the image of all names in a buffer that has room for it: the front, then each entry with its pair of hash and
-// offset where its table will stand and its offset in the back array, then the tables.
+// offset where its table will stand and its offset in the back array, then the tables. With `stop` it ends at the first
+// entry that meets one of equal name, and what the image's bytes then hold is unspecified.
 pub(crate) fn write_list(
     mode: Mode,
     counts: &[u32; 256],
@@ -28,10 +29,11 @@ pub(crate) fn write_list(
     ends: &[u64],
     ids: &[u32],
     scratch: &mut [u32],
+    stop: bool,
 ) -> WrittenList
     requires { ⌜ WriteListPre mode (now counts) (now hashes) (now buf) (now bytes) (now ends) (now ids) ⌝ }
     ensures { λ r. ⌜
-        ListWritten mode (now (buf .entry)) (now (bytes .entry)) (now (ends .entry)) (now (ids .entry)) (r .size)
+        ListWritten stop mode (now (buf .entry)) (now (bytes .entry)) (now (ends .entry)) (now (ids .entry)) (r .size)
         (r .met) (now (buf .exit))
         ⌝ }
 {
@@ -48,28 +50,23 @@ pub(crate) fn write_list(
     while i < n {
         let name = nth_name(bytes, ends, i);
         let id = ids[i];
+        let h = hashes[i];
         writer::entry::store(&mut *buf, at, name, id);
-        partition_entry(
-            mode,
-            back_at,
-            &mut *buf,
-            &mut places,
-            at as u32,
-            id,
-            hashes[i],
-        );
+        partition_entry(mode, back_at, &mut *buf, &mut places, at as u32, id, h);
         at += 9 + name.len();
         i += 1;
     }
+    let image = &mut buf[..size as usize];
     let met = fill_all(
         mode,
         back_at,
-        &mut *buf,
+        &mut *image,
         counts,
         end as usize,
         entries,
         size as usize,
         &mut *scratch,
+        stop,
     );
     WrittenList {
         size: size as u32,

@@ -5,7 +5,7 @@ use Rattle.image.proofs.Bools.{false-not-true}
 use mathlib.Core.Bool.{Bool, true, false, cond}
 use mathlib.Core.List.{List}
 use lib.ListN.{length}
-use Rattle.jhash.specs.Outcome.{Outcome, value, refusal}
+use Rattle.jhash.specs.Outcome.{Outcome, refusal}
 use Rattle.image.specs.declared.Mode.{Mode}
 use Rattle.writer.specs.declared.Repeats.{Repeats}
 use Rattle.build.specs.declared.Made.{Made}
@@ -15,8 +15,8 @@ use Rattle.writer.specs.Numbers.{validNumbers, modeOf, repeatsOf}
 use Rattle.build_c.specs.Building.{builtAnswer, buildAnswer, BufferLeft, answersBuilt}
 
 -- what `build` promises, by the names of its clauses
-pub record Promise (mode : Mode) (repeats : Repeats) (buffer bytes ends ids refusals scratch : List ℕ) (out : Outcome Made) (buffer′ refusals′ scratch′ : List ℕ)
-    : Type 0 where
+pub record Promise (mode : Mode) (repeats : Repeats) (buffer bytes ends ids refusals scratch : List ℕ) (out : Outcome Made)
+    (buffer′ refusals′ scratch′ : List ℕ) : Type 0 where
   pub answer : out ≡ building mode repeats buffer bytes ends ids (length refusals)
   pub leaves : BufferBuilt mode repeats buffer bytes ends ids (length refusals) buffer′
   pub answers : refusals′ ≡ answersAfter mode repeats buffer bytes ends ids refusals

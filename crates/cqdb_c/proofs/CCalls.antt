@@ -97,51 +97,51 @@ close-known h v w' r buffer d k n fine is close number told back =
 -- no refusal changes the record, the counts or a byte: begin
 pub begin-refused : (mode repeats n : ℕ) (l : LentWriter) → (numberIn (beginningOf mode repeats n) ≡ 0 → ⊥) → leftByBegin mode repeats n l ≡ l
 unfolding leftByBegin
-begin-refused mode repeats n l = go (beginningOf mode repeats n)
+begin-refused mode repeats n l = lent-kept (beginningOf mode repeats n)
   where
-    go : (b : Outcome CQDBWriter)
+    lent-kept : (b : Outcome CQDBWriter)
         → (numberIn b ≡ 0 → ⊥)
         → lentIn b l ≡ l
-    go (value w) refused = absurd (refused refl)
-    go (refusal k) refused = refl
+    lent-kept (value w) refused = absurd (refused refl)
+    lent-kept (refusal k) refused = refl
 
 -- put
 pub put-refused : (h : CState) (e : Entry) → (putNumber h e ≡ 0 → ⊥) → leftByPut h e ≡ h
 unfolding putNumber leftByPut afterPut
-put-refused h e = go (knownIn h) refl
+put-refused h e = state-kept (knownIn h) refl
   where
-    go : (t : Bool) → knownIn h ≡ t → (cond t (putRefusal (stateIn h) e) 2 ≡ 0 → ⊥) → cond t (cStateOf (afterPut (stateIn h) e)) h ≡ h
-    go true fine refused =
+    state-kept : (t : Bool) → knownIn h ≡ t → (cond t (putRefusal (stateIn h) e) 2 ≡ 0 → ⊥) → cond t (cStateOf (afterPut (stateIn h) e)) h ≡ h
+    state-kept true fine refused =
         ap (λ (b : Bool). cStateOf (cond b (appended (stateIn h) e) (stateIn h))) (ne-eqb (putRefusal (stateIn h) e) 0 refused)
         ∙ back-and-forth h fine
-    go false over refused = refl
+    state-kept false over refused = refl
 
 -- and close
 pub close-refused : (h : CState) → (refusalIn (closingOf h) ≡ 0 → ⊥) → leftByClose h ≡ h
 unfolding closingOf leftByClose closing afterClose
-close-refused h = go (knownIn h) refl
+close-refused h = state-kept (knownIn h) refl
   where
-    go : (t : Bool) → knownIn h ≡ t → (refusalIn (cond t (closing (stateIn h)) (refusal 2)) ≡ 0 → ⊥)
+    state-kept : (t : Bool) → knownIn h ≡ t → (refusalIn (cond t (closing (stateIn h)) (refusal 2)) ≡ 0 → ⊥)
         → cond t (cStateOf (afterClose (stateIn h))) h ≡ h
-    go true fine refused = by (eqb (closeRefusal (stateIn h)) 0) refused ∙ back-and-forth h fine
+    state-kept true fine refused = by (eqb (closeRefusal (stateIn h)) 0) refused ∙ back-and-forth h fine
       where
         by : (b : Bool) → (refusalIn (cond b (value (closedSize (stateIn h))) (refusal (closeRefusal (stateIn h)))) ≡ 0 → ⊥) →
             cStateOf (cond b (closed (stateIn h)) (stateIn h)) ≡ cStateOf (stateIn h)
         by true never = absurd (never refl)
         by false never = refl
-    go false over refused = refl
+    state-kept false over refused = refl
 
 -- close hands back the record that it was lent, and the counts
 pub close-keeps : (h : CState) → (leftByClose h .writer ≡ h .writer) × (leftByClose h .counts ≡ h .counts)
 unfolding leftByClose afterClose closed
-close-keeps h = go (knownIn h) refl
+close-keeps h = both-kept (knownIn h) refl
   where
     kept : knownIn h ≡ true → (b : Bool) →
         (cStateOf (cond b (closed (stateIn h)) (stateIn h)) .writer ≡ h .writer) × (cStateOf (cond b (closed (stateIn h)) (stateIn h)) .counts ≡ h .counts)
     kept fine true = (ap (λ (x : CState). x .writer) (back-and-forth h fine), refl)
     kept fine false = (ap (λ (x : CState). x .writer) (back-and-forth h fine), refl)
 
-    go : (t : Bool) → knownIn h ≡ t →
+    both-kept : (t : Bool) → knownIn h ≡ t →
         (cond t (cStateOf (afterClose (stateIn h))) h .writer ≡ h .writer) × (cond t (cStateOf (afterClose (stateIn h))) h .counts ≡ h .counts)
-    go true fine = kept fine (eqb (closeRefusal (stateIn h)) 0)
-    go false over = (refl, refl)
+    both-kept true fine = kept fine (eqb (closeRefusal (stateIn h)) 0)
+    both-kept false over = (refl, refl)

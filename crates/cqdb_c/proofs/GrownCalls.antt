@@ -1,6 +1,6 @@
 -- A buffer that grows, as C has it. Assumes nothing.
-use Prim.Native.Nat.{ℕ, _≤_, _<_}
-use mathlib.Core.Path.{_≡_, refl, sym, ap, _∙_}
+use Prim.Native.Nat.{ℕ}
+use mathlib.Core.Path.{_≡_, refl, ap, _∙_}
 use mathlib.Core.Bool.{Bool, true, false, cond}
 use mathlib.Core.List.{[]}
 use lib.Dec.{ltb}
@@ -30,10 +30,10 @@ grown-known r n v w left k fine is grown back =
 -- a refusal changes nothing
 pub grown-refused : (r : Record) (n : ℕ) → (grownNumber r n ≡ 0 → ⊥) → recordGrown r n ≡ r
 unfolding grownNumber recordGrown
-grown-refused r n = go (validNumbers (r .mode) (r .repeats)) refl (ltb n (r .length))
+grown-refused r n = record-kept (validNumbers (r .mode) (r .repeats)) refl (ltb n (r .length))
   where
-    go : (t : Bool) → validNumbers (r .mode) (r .repeats) ≡ t → (b : Bool) → (_≡_ {A = ℕ} (cond t (cond b 2 0) 2) 0 → ⊥)
+    record-kept : (t : Bool) → validNumbers (r .mode) (r .repeats) ≡ t → (b : Bool) → (_≡_ {A = ℕ} (cond t (cond b 2 0) 2) 0 → ⊥)
         → cond t (recordOf (cond b (writerOf r) (withLength (writerOf r) n))) r ≡ r
-    go true fine true refused = ap (λ (h : CState). h .writer) (back-and-forth (cState r [] []) fine)
-    go true fine false refused = absurd (refused refl)
-    go false over b refused = refl
+    record-kept true fine true refused = ap (λ (h : CState). h .writer) (back-and-forth (cState r [] []) fine)
+    record-kept true fine false refused = absurd (refused refl)
+    record-kept false over b refused = refl

@@ -11,8 +11,8 @@ use Rattle.reader.proofs.Lengths.{naming-small}
 -- in the panel's answer it is no longer than in naming's
 pub panel-small : (image : List ℕ) (id : ℕ) → ((i : ℕ) → getD image i 0 < 256) → lengthIn (panel image id) < 4294967296
 unfolding panel
-panel-small image id bytes = go (naming image id) (naming-small image id bytes)
+panel-small image id bytes = cut-small (naming image id) (naming-small image id bytes)
   where
-    go : (x : Naming) → lengthIn x < 4294967296 → lengthIn (cutAtZero image x) < 4294967296
-    go (place s n) small = omega (arith, before-short (take n (drop s image)), length-take n (drop s image))
-    go unnamed small = small
+    cut-small : (x : Naming) → lengthIn x < 4294967296 → lengthIn (cutAtZero image x) < 4294967296
+    cut-small (place s n) small = omega (arith, before-short (take n (drop s image)), length-take n (drop s image))
+    cut-small unnamed small = small

@@ -1,19 +1,17 @@
 -- Head and rows written, the back array cleared, or the tables too: the image before any entry is partitioned or inserted. Assumes nothing.
 use Prim.Native.Nat.{ℕ, _+_, _-_, _*_, _≤_}
 use native.Mathlib.Omega.{arith}
-use mathlib.Core.Path.{_≡_, refl, sym, ap, _∙_}
+use mathlib.Core.Path.{_≡_, sym, ap, _∙_}
 use mathlib.Core.Bool.{cond}
 use mathlib.Core.List.{List, [], _++_, append-assoc, append-nil}
-use lib.ListN.{length, take, drop, replicate, length-append, length-drop, length-replicate, take-append-drop}
+use lib.ListN.{length, take, drop, replicate, length-append, length-drop, length-replicate}
 use lib.Seq.{sets, sets-eq, take-add, drop-drop}
 use lib.Dec.{eqb}
 use Rattle.image.specs.Image.{Entry, headSize, placed, flagWord, backIn, backSize, backSizeOf, entriesEnd, imageSize}
 use Rattle.image.specs.Image.{backOffset, headBytes, headWords, tableRows, backWords}
 use Rattle.image.specs.declared.Mode.{Mode}
-use Rattle.image.specs.declared.Mode.the-variants.{Twoway, Oneway}
 use Rattle.image.proofs.Sizes.{length-placed, length-headWords, length-tableRows, length-backWords, backIn-twice}
 use Rattle.image.proofs.Stores.{sets-then, sets-right-at, sets-whole}
-use Rattle.image.proofs.Between.{length-between}
 use Rattle.image.proofs.Parts.{placedIn}
 use Rattle.serialize.specs.Record.{finishedOf}
 use Rattle.image.specs.Stored.{between}
@@ -98,13 +96,6 @@ module _ (mode : Mode) (end entries back : ℕ) (counts buf : List ℕ) (es : Li
       let n = backSizeOf mode es in
       let long : size - (end + 16 * entries) ≡ length (backWords [] n) = omega (arith, back-is, length-backWords [] n) in
       ap (λ (k : ℕ). replicate k 0) long ∙ sym (zeros-back-words n)
-
-  pub length-front : length (headWords mode es ++ tableRows (entriesEnd es) (placedIn es) ++ between buf headSize end) ≡ entriesEnd es
-  length-front =
-      let H = headWords mode es in
-      let R = tableRows (entriesEnd es) (placedIn es) in
-      omega
-      (arith, length-append (H ++ R) (between buf headSize end), length-append H R, length-headWords mode es, length-tableRows (entriesEnd es) (placedIn es), length-between buf headSize end (omega (arith, numbers .ends)) (omega (arith, numbers .inside)), numbers .ends)
 
   -- head and rows written, the back array cleared: what stands in the place of the entries and of the tables is whatever stood there
   pub begun-is : begunImage mode end entries back counts buf

@@ -4,50 +4,46 @@ use native.Mathlib.Omega.{arith}
 use native.Mathlib.Decide.{ℕ-discrete}
 use native.Mathlib.Nat.{mod-lt}
 use mathlib.Core.Path.{_≡_, refl, sym, ap, ap₂, subst, _∙_}
-use mathlib.Core.Bool.{Bool, true, false}
+use mathlib.Core.Bool.{true, false}
 use mathlib.Core.List.{List, [], _∷_, _++_, map, append-nil, append-assoc}
-use lib.ListN.{length, getD, take, drop, length-append}
-use lib.Dec.{eqb}
+use lib.ListN.{length, take, drop}
 use borrow.Author.Tests.{eq-eqb}
 use Rattle.jhash.specs.NameHash.{hashOf}
 use Rattle.image.specs.Bytes.{same, cat, filter}
 use Rattle.image.specs.Tables.{Bucket, tableOf}
 use Rattle.image.specs.Image.{Entry, Placed, headSize, entryBytes, entrySize, entriesSize, placed, inTable, ofTable, count, bucketOf, entriesBefore}
-use Rattle.image.specs.Image.{tableRows, headWords, backWords, backSizeOf, backOffset, entriesEnd, imageSize}
+use Rattle.image.specs.Image.{backOffset, entriesEnd, imageSize}
 use Rattle.image.specs.declared.Mode.{Mode}
 use Rattle.image.proofs.Equal.{same-true}
 use Rattle.image.proofs.Lists.{filter-yes}
-use Rattle.image.proofs.Sizes.{length-entries, entriesSize-append, placed-append, length-headWords, length-tableRows, before-suc}
+use Rattle.image.proofs.Sizes.{length-entries, entriesSize-append, placed-append, before-suc}
 use Rattle.image.proofs.AllOfList.{All, all-map, all-both, all-filter, all-image}
-use Rattle.image.proofs.At.{At, at-whole, at-same, at-right}
+use Rattle.image.proofs.At.{At}
 use Rattle.image.proofs.Parts.{placedIn}
 use Rattle.serialize.specs.steps.Insertion.{entryHash, entryInserted}
 use Rattle.serialize.specs.steps.Partition.{pairsStored, tableFilled}
 use Rattle.serialize.specs.steps.Meeting.{nameIn, sameNames, Pairwise, OtherNames, Apart, Distinct, RowUnmet, UnmetFrom, TablesApart}
+use Rattle.serialize.proofs.Choices.{never-true}
 use Rattle.serialize.proofs.HeadRows.{Counts}
 use Rattle.serialize.proofs.Pairwise.{all-before, pairwise-more, all-tested, pairwise-rest}
 use Rattle.serialize.proofs.PartialImage.{upToEntries, length-upToEntries, partial, entries-after}
 use Rattle.serialize.proofs.EntryAdded.{ownTable}
 use Rattle.serialize.proofs.InsertStep.{length-there, name-there, next-at, above, length-found, name-found, step, row-apart}
 use Rattle.serialize.proofs.TablesFilled.{filledTo, front-filled, table-step, pairs-are}
+use Rattle.serialize.proofs.Partitioned.{entries-in}
 
 -- ---- names that are read in the bytes up to the end of the entries
 
 module _ (mode : Mode) (es : List Entry) (fits : entriesEnd es ≤ 4294967295) where
-  entries-in : At (upToEntries mode es) headSize (cat entryBytes es)
-  unfolding upToEntries
-  entries-in =
-      let H = headWords mode es in
-      let R = tableRows (entriesEnd es) (placedIn es) in
-      let sum : 0 + length (H ++ R) ≡ headSize = omega (arith, length-append H R, length-headWords mode es, length-tableRows (entriesEnd es) (placedIn es)) in
-      at-same sum (at-right (H ++ R) (cat entryBytes es) (at-whole (upToEntries mode es)))
+  entries-up : At (upToEntries mode es) headSize (cat entryBytes es)
+  entries-up = rw append-nil at (entries-in mode es [])
 
   name-in : (qs rest : List Entry) (e : Entry) → es ≡ qs ++ e ∷ rest → nameIn (upToEntries mode es) (headSize + entriesSize qs) ≡ e .name
   unfolding nameIn entriesSize
   name-in qs rest e split =
       let U = upToEntries mode es in
       let at = headSize + entriesSize qs in
-      let there = entries-after es (e ∷ rest) qs entries-in split in
+      let there = entries-after es (e ∷ rest) qs entries-up split in
       let sizes : entriesSize es ≡ entriesSize qs + entriesSize (e ∷ rest) = ap entriesSize split ∙ entriesSize-append qs (e ∷ rest) in
       let end : length U ≡ at + length (cat entryBytes (e ∷ rest)) = omega (arith, length-upToEntries mode es, length-entries (e ∷ rest)) in
       ap (λ (k : ℕ). take (k - 1) (drop (at + 8) U)) (length-there at e rest there (length U) end (omega arith))
@@ -70,15 +66,13 @@ module _ (front : List ℕ) where
   abbrev Named : Placed → Type 0
   Named p = nameIn front (p .at) ≡ p .entry .name
 
-  other : (p q : Placed) → Named p → Named q → (tableOf (hashOf (p .entry .name)) ≡ tableOf (hashOf (q .entry .name)) → OtherNames front (bucketOf p) (bucketOf q))
+  other : (p q : Placed) → Named p → Named q
+      → (tableOf (hashOf (p .entry .name)) ≡ tableOf (hashOf (q .entry .name)) → OtherNames front (bucketOf p) (bucketOf q))
       → same (p .entry .name) (q .entry .name) ≡ false
-  other p q np nq told = go (same (p .entry .name) (q .entry .name)) refl
-    where
-      go : (b : Bool) → same (p .entry .name) (q .entry .name) ≡ b → b ≡ false
-      go true e =
-          let equal = same-true (p .entry .name) (q .entry .name) e in
-          sym e ∙ sym (ap₂ same np nq) ∙ told (ap (λ (x : List ℕ). tableOf (hashOf x)) equal) (ap hashOf equal)
-      go false e = refl
+  other p q np nq told =
+      never-true (same (p .entry .name) (q .entry .name)) (λ e.
+      let equal = same-true (p .entry .name) (q .entry .name) e in
+      sym (ap₂ same np nq) ∙ told (ap (λ (x : List ℕ). tableOf (hashOf x)) equal) (ap hashOf equal))
 
   entries-of : (P : Entry → Type 0) (o : ℕ) (es : List Entry) → All (λ (p : Placed). P (p .entry)) (placed o es) → All P es
   unfolding placed
@@ -141,7 +135,8 @@ module _ (mode : Mode) (es : List Entry) (X tail : List ℕ) (long : length X �
       (all-filter (λ (q : Placed). headSize ≤ q .at) (inTable t) (placedIn es) (above headSize es)) in
       let apart = subst (λ (g : List ℕ). TablesApart g counts (entriesEnd es) 0 256 (filledTo mode es X 0 tail)) (front-filled mode es X tail long) told in
       tables-distinct U headSize es (names-placed mode es (omega arith) es [] refl)
-      (λ t h. tables-apart 256 0 (omega arith) (subst (λ (k : ℕ). TablesApart front counts k 0 256 (filledTo mode es X 0 tail)) none apart) t (omega arith) h (full t))
+      (λ t h. tables-apart 256 0 (omega arith) (subst (λ (k : ℕ). TablesApart front counts k 0 256 (filledTo mode es X 0 tail)) none apart) t
+      (omega arith) h (full t))
 
 -- ---- one by one
 
@@ -166,17 +161,18 @@ module _ (mode : Mode) (es : List Entry) (tail : List ℕ) (small : imageSize mo
       let row : RowUnmet B end (hashOf (e .name)) at =
       subst (λ (name : List ℕ). RowUnmet B end (hashOf name) at) (name-found mode es qs rest e tail split small ids) (both .0) in
       let own = names-placed mode es (omega arith) (e ∷ rest) qs split .0 in
-      let earlier : All (λ (x : Placed). nameIn U (x .at) ≡ x .entry .name) (placedIn qs) =
-      all-before (λ (x : Placed). nameIn U (x .at) ≡ x .entry .name) (placedIn qs) (placed at (e ∷ rest))
-      (subst (All (λ (x : Placed). nameIn U (x .at) ≡ x .entry .name)) (ap (placed headSize) split ∙ placed-append headSize qs (e ∷ rest)) (names-placed mode es (omega arith) es [] refl)) in
+      let earlier : All (Named U) (placedIn qs) =
+      all-before (Named U) (placedIn qs) (placed at (e ∷ rest))
+      (subst (All (Named U)) (ap (placed headSize) split ∙ placed-append headSize qs (e ∷ rest)) (names-placed mode es (omega arith) es [] refl)) in
       let told-each = all-tested (λ (x : Bucket). x .hash ≡ hashOf (e .name) → sameNames U at (x .at) ≡ false) bucketOf (inTable t) (placedIn qs)
       (row-apart mode es qs rest e tail split small ids row) in
       let each : All (λ (x : Placed). same (x .entry .name) (e .name) ≡ false) (placedIn qs) =
       all-map (λ x h. other U x p (h .0) own (λ z. h .1 (eq-eqb (tableOf (hashOf (x .entry .name))) t z))) (placedIn qs)
-      (all-both (λ (x : Placed). nameIn U (x .at) ≡ x .entry .name) (λ (x : Placed). inTable t x ≡ true → OtherNames U (bucketOf x) (bucketOf p)) (placedIn qs) earlier told-each) in
+      (all-both (Named U) (λ (x : Placed). inTable t x ≡ true → OtherNames U (bucketOf x) (bucketOf p)) (placedIn qs) earlier told-each) in
       let later =
       subst (λ (k : ℕ). UnmetFrom mode o end (length rest) k (partial mode es (qs ++ e ∷ []) ++ tail)) (next-at qs e)
       (subst (λ (l : List ℕ). UnmetFrom mode o end (length rest) (at + (8 + n)) l) (step mode es qs rest e tail split small ids) (both .1)) in
       singly-distinct rest (qs ++ e ∷ []) (split ∙ sym (append-assoc qs (e ∷ []) rest))
-      (pairwise-more (λ (x y : Entry). same (x .name) (y .name) ≡ false) qs e two (entries-of U (λ (x : Entry). same (x .name) (e .name) ≡ false) headSize qs each))
+      (pairwise-more (λ (x y : Entry). same (x .name) (y .name) ≡ false) qs e two
+      (entries-of U (λ (x : Entry). same (x .name) (e .name) ≡ false) headSize qs each))
       later

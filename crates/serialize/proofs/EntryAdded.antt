@@ -1,9 +1,9 @@
 -- One entry more in tables and back array: one bucket of one table changes, and one word of the back array. Assumes nothing.
-use Prim.Native.Nat.{ℕ, zero, suc, _+_, _*_, _/_, _≤_, _<_}
+use Prim.Native.Nat.{ℕ, zero, suc, _+_, _*_, _/_, _^_, _≤_, _<_}
 use native.Mathlib.Nat.{mod-lt}
 use native.Mathlib.Omega.{arith}
 use mathlib.Core.Path.{_≡_, refl, sym, ap, _∙_}
-use mathlib.Core.Bool.{Bool, true, false, cond}
+use mathlib.Core.Bool.{false}
 use mathlib.Core.List.{List, [], _∷_, _++_, map, map-append, append-nil}
 use lib.ListN.{length}
 use lib.Seq.{sets}
@@ -11,14 +11,17 @@ use lib.Dec.{eqb, lit<}
 use borrow.Author.Tests.{eq-eqb, ne-eqb}
 use Rattle.jhash.specs.NameHash.{hashOf}
 use Rattle.image.specs.Bytes.{le32, cat, filter, range}
-use Rattle.image.specs.Tables.{tableOf, start, next, probeSequence, firstEmpty, atOf, insert, filled}
+use Rattle.image.specs.Tables.{Bucket, tableOf, start, next, probeSequence, firstEmpty, atOf, insert, filled}
 use Rattle.image.specs.Image.{Placed, inTable, ofTable, count, bucketOf, bucketBytes, entriesBefore, hasId, placedOfId, lastFrom, backWord, backWords}
 use Rattle.image.proofs.Words.{length-le32}
 use Rattle.image.proofs.Lists.{length-cat, filter-yes, filter-no, filter-append, length-range}
 use Rattle.image.proofs.Sizes.{ofTable-append, filled-more, length-bucketBytes}
 use Rattle.image.proofs.Stores.{sets-part, sets-run}
 use Rattle.image.proofs.Parts.{bucketsOf, length-tablesOf-to}
+use Rattle.serialize.proofs.Choices.{cond-holds}
 use Rattle.serialize.proofs.PartialImage.{tableWith, tablesWith, length-tableWith}
+use Rattle.image.proofs.At.{At, at-left, at-word, at-second}
+use Rattle.serialize.specs.steps.Meeting.{bucketAt}
 
 -- ---- the first empty bucket of a search
 
@@ -26,11 +29,20 @@ use Rattle.serialize.proofs.PartialImage.{tableWith, tablesWith, length
 pub firstEmpty-below : (f : ℕ → ℕ) (n m k : ℕ) → k < n → firstEmpty f (probeSequence n m k) < n
 unfolding firstEmpty probeSequence
 firstEmpty-below f n zero k h = omega arith
-firstEmpty-below f n (suc m) k h = go (eqb (f k) 0) (firstEmpty-below f n m (next n k) (mod-lt (k + 1) (omega arith)))
-  where
-    go : (b : Bool) → firstEmpty f (probeSequence n m (next n k)) < n → cond b k (firstEmpty f (probeSequence n m (next n k))) < n
-    go true i = h
-    go false i = i
+firstEmpty-below f n (suc m) k h =
+    cond-holds (λ (j : ℕ). j < n) (eqb (f k) 0) h (firstEmpty-below f n m (next n k) (mod-lt (k + 1) (omega arith)))
+
+-- ---- a bucket as it is read
+
+abbrev pub Words : Bucket → Type 0
+Words b = (b .hash < 2 ^ 32) × (b .at < 2 ^ 32)
+
+pub bucket-read : {img : List ℕ} (o k : ℕ) (b : Bucket) → At img (o + 8 * k) (bucketBytes b) → Words b → bucketAt img o k ≡ b
+unfolding bucketBytes
+bucket-read o k b there small =
+    let hash = at-word (b .hash) (at-left (le32 (b .hash)) (le32 (b .at)) there) (small .0) in
+    let at = at-word (b .at) (at-second (b .hash) (b .at) there) (small .1) in
+    λ i. record { hash = hash i; at = at i }
 
 -- ---- tables
 
@@ -102,8 +114,8 @@ module _ (ps rs : List Placed) (p : Placed) where
       inside : 8 * place ps rs p + length (bucketBytes (bucketOf p)) ≤ length (cat bucketBytes (tableWith ps rs (ownTable p)))
       inside =
           let b = place-below h in
-          omega
-          (arith, length-bucketBytes (bucketOf p), length-cat bucketBytes 8 length-bucketBytes (tableWith ps rs (ownTable p)), length-tableWith ps rs (ownTable p))
+          let T = tableWith ps rs (ownTable p) in
+          omega (arith, length-bucketBytes (bucketOf p), length-cat bucketBytes 8 length-bucketBytes T, length-tableWith ps rs (ownTable p))
 
 -- ---- the back array
 

@@ -1,7 +1,7 @@
 -- The rows that counts give are those of an image whose entries have these counts. Assumes nothing.
 use Prim.Native.Nat.{ℕ, zero, suc, _+_, _*_, _<_}
 use native.Mathlib.Omega.{arith}
-use mathlib.Core.Path.{_≡_, refl, ap, _∙_}
+use mathlib.Core.Path.{_≡_, refl, ap, _∙_, subst}
 use mathlib.Core.Bool.{true, cond}
 use mathlib.Core.List.{List, _++_}
 use lib.ListN.{getD}
@@ -36,10 +36,8 @@ module _ (counts : List ℕ) (end : ℕ) (ps : List Placed) where
       let more : o + 16 * count t ps ≡ end + 16 * entriesBefore (suc t) ps = omega (arith, before-suc t ps) in
       ap (λ (n : ℕ). le32 (cond (eqb n 0) 0 o) ++ le32 (2 * n) ++ rowsFrom counts (o + 16 * n) (suc t) m) c
       ∙ ap (λ (k : ℕ). le32 (cond (eqb (count t ps) 0) 0 k) ++ le32 (2 * count t ps) ++ rowsFrom counts (o + 16 * count t ps) (suc t) m) e
-      ∙ ap (λ (l : List ℕ). tableRow end ps t ++ l) (rows-from m (suc t) (o + 16 * count t ps) more (λ i k. shift i (h (suc i) (omega arith))))
-    where
-      shift : (i : ℕ) → getD counts (t + suc i) 0 ≡ count (t + suc i) ps → getD counts (suc t + i) 0 ≡ count (suc t + i) ps
-      shift i e = let z : t + suc i ≡ suc t + i = omega arith in rw z at e
+      ∙ ap (λ (l : List ℕ). tableRow end ps t ++ l) (rows-from m (suc t) (o + 16 * count t ps) more (λ i k.
+      let z : t + suc i ≡ suc t + i = omega arith in rw z at (h (suc i) (omega arith))))
 
   none-before : end ≡ end + 16 * entriesBefore 0 ps
   unfolding entriesBefore
@@ -47,7 +45,4 @@ module _ (counts : List ℕ) (end : ℕ) (ps : List Placed) where
 
   pub rows-image : Counts counts ps → rowsFrom counts end 0 256 ≡ tableRows end ps
   unfolding tableRows
-  rows-image h = rows-from 256 0 end none-before (λ i k. at i (h i k))
-    where
-      at : (i : ℕ) → getD counts i 0 ≡ count i ps → getD counts (0 + i) 0 ≡ count (0 + i) ps
-      at i e = let z : i ≡ 0 + i = omega arith in rw z at e
+  rows-image h = rows-from 256 0 end none-before (λ i k. let z : i ≡ 0 + i = omega arith in subst (λ (j : ℕ). getD counts j 0 ≡ count j ps) z (h i k))

@@ -19,11 +19,12 @@ use Rattle.image.specs.declared.Mode.{Mode}
 use Rattle.image.specs.declared.Mode.the-variants.{Twoway, Oneway}
 use Rattle.image.proofs.Words.{length-le32}
 use Rattle.image.proofs.Lists.{cat-cons}
-use Rattle.image.proofs.Sizes.{length-entries, length-entryBytes, entriesSize-append, length-placed, placed-append, count-append, count-cons, length-bucketBytes, length-backWords}
+use Rattle.image.proofs.Sizes.{length-entries, length-entryBytes, entriesSize-append, length-placed, placed-append}
+use Rattle.image.proofs.Sizes.{count-append, count-cons, length-bucketBytes, length-backWords}
 use Rattle.image.proofs.Stores.{sets-left, sets-right-at}
 use Rattle.image.proofs.AllOfList.{All, all-map, all-middle, all-filter, all-image}
 use Rattle.image.proofs.Buckets.{filled-all, firstEmpty-ext}
-use Rattle.image.proofs.At.{At, at-equal, at-left, at-take, at-fits, at-word, at-second}
+use Rattle.image.proofs.At.{At, at-equal, at-left, at-take, at-fits}
 use Rattle.image.proofs.Bools.{and-both}
 use Rattle.image.proofs.Parts.{placedIn, before-most, offset-word, number-word, bucket-of}
 use Rattle.image.proofs.EntryAt.{id-word, length-word, name-bytes, ids-below}
@@ -36,7 +37,7 @@ use Rattle.serialize.specs.steps.Insertion.{holdsTable, inserted, insert
 use Rattle.image.proofs.Between.{is-whole}
 use Rattle.serialize.proofs.PartialImage.{tableWith, tablesWith, length-tableWith, length-tablesWith, upToEntries, length-upToEntries, partial}
 use Rattle.serialize.proofs.PartialImage.{rows-there, tables-there, entries-from}
-use Rattle.serialize.proofs.EntryAdded.{place, place-below, tables-more, back-words-more}
+use Rattle.serialize.proofs.EntryAdded.{place, place-below, tables-more, back-words-more, Words, bucket-read}
 
 -- ---- the entry at the front of the bytes of entries is whole
 
@@ -206,13 +207,8 @@ module _ (mode : Mode) (es qs rest : List Entry) (e : Entry) (tail : List ℕ) (
   pub length-found : wholeLength (between (partial mode es qs ++ tail) (headSize + entriesSize qs) (entriesEnd es)) ≡ length (e .name) + 1
   length-found = length-there (headSize + entriesSize qs) e rest from-here (entriesEnd es) ends-there name-short
 
-  name-read : take (length (e .name) + 1 - 1) (drop (headSize + entriesSize qs + 8) B) ≡ e .name
-  unfolding B
-  name-read = name-there (headSize + entriesSize qs) e rest from-here
-
   pub name-found : take (length (e .name) + 1 - 1) (drop (headSize + entriesSize qs + 8) (partial mode es qs ++ tail)) ≡ e .name
-  unfolding B
-  name-found = name-read
+  name-found = name-there (headSize + entriesSize qs) e rest from-here
 
   -- ---- the bucket for it
 
@@ -231,30 +227,29 @@ module _ (mode : Mode) (es qs rest : List Entry) (e : Entry) (tail : List ℕ) (
   unfolding B ps
   number-there = number-word (entriesEnd es) (placedIn es) (rows-there mode es qs tail) tables-fit u u-below
 
-  offset-small : (k : ℕ) → atOf (tableWith ps rs u) k < 2 ^ 32
+  words-small : (k : ℕ) → Words (getD (tableWith ps rs u) k empty)
   unfolding tableWith rs ofTable
-  offset-small k =
-      filled-all (λ (b : Bucket). b .at < 2 ^ 32) (2 * count u ps) (map bucketOf (ofTable u rs)) (omega arith)
-      (all-image (λ (b : Bucket). b .at < 2 ^ 32) bucketOf (λ q h. omega (arith, sizes)) (ofTable u rs)
+  words-small k =
+      filled-all Words (2 * count u ps) (map bucketOf (ofTable u rs)) (omega arith, omega arith)
+      (all-image Words bucketOf (λ q h. (hashOf-below (q .entry .name), omega (arith, sizes))) (ofTable u rs)
       (all-filter (λ (q : Placed). q .at ≤ entriesEnd es) (inTable u) rs (offsets headSize (entriesEnd es) qs (omega (arith, sizes))))) k
 
-  bucket-there : (k : ℕ) → k < 2 * count u ps → word B (entriesEnd es + 16 * entriesBefore u ps + 8 * k + 4) ≡ atOf (tableWith ps rs u) k
-  unfolding B ps rs bucketBytes tablesWith
+  bucket-there : (k : ℕ) → k < 2 * count u ps → bucketAt B (entriesEnd es + 16 * entriesBefore u ps) k ≡ getD (tableWith ps rs u) k empty
+  unfolding B ps rs tablesWith
   bucket-there k h =
-      let b = getD (tableWith ps rs u) k empty in
-      at-word (b .at)
-      (at-second (b .hash) (b .at)
-      (bucket-of (placedIn es) (tableWith ps rs) (length-tableWith ps rs) (entriesEnd es) (tables-there mode es qs tail) u k u-below h))
-      (offset-small k)
+      bucket-read (entriesEnd es + 16 * entriesBefore u ps) k (getD (tableWith ps rs u) k empty)
+      (bucket-of (placedIn es) (tableWith ps rs) (length-tableWith ps rs) (entriesEnd es) (tables-there mode es qs tail) u k u-below h) (words-small k)
 
-  slot-there : firstEmpty (offsetAt B (entriesEnd es + 16 * entriesBefore u ps)) (probeSequence (2 * count u ps) (2 * count u ps) (start (hashOf (e .name)) (2 * count u ps)))
+  slot-there : firstEmpty (offsetAt B (entriesEnd es + 16 * entriesBefore u ps))
+      (probeSequence (2 * count u ps) (2 * count u ps) (start (hashOf (e .name)) (2 * count u ps)))
       ≡ place ps rs p
   unfolding place u p
   slot-there =
       let o = entriesEnd es + 16 * entriesBefore u ps in
       let n = 2 * count u ps in
       let h = hashOf (e .name) in
-      firstEmpty-ext (offsetAt B o) (atOf (tableWith ps rs u)) n bucket-there n (start h n) (mod-lt (h / 256) (let s = some-there in omega arith))
+      let seen : (k : ℕ) → k < n → offsetAt B o k ≡ atOf (tableWith ps rs u) k = λ k l. ap (λ (b : Bucket). b .at) (bucket-there k l) in
+      firstEmpty-ext (offsetAt B o) (atOf (tableWith ps rs u)) n seen n (start h n) (mod-lt (h / 256) (let s = some-there in omega arith))
 
   holds-table : holdsTable B (entriesEnd es + 16 * entriesBefore u ps) (2 * count u ps) ≡ true
   unfolding B ps
@@ -268,22 +263,6 @@ module _ (mode : Mode) (es qs rest : List Entry) (e : Entry) (tail : List ℕ) (
       let inside : entriesEnd es + length T ≤ length B = at-fits (tables-there mode es qs tail) (omega arith) in
       and-both (leb 1 n) (leb (o + 8 * n) (length B)) (le-leb 1 n (omega arith)) (le-leb (o + 8 * n) (length B) (omega arith))
 
-  hash-small : (k : ℕ) → getD (tableWith ps rs u) k empty .hash < 2 ^ 32
-  unfolding tableWith rs ofTable
-  hash-small k =
-      filled-all (λ (b : Bucket). b .hash < 2 ^ 32) (2 * count u ps) (map bucketOf (ofTable u rs)) (omega arith)
-      (all-image (λ (b : Bucket). b .hash < 2 ^ 32) bucketOf (λ q h. hashOf-below (q .entry .name)) (ofTable u rs)
-      (all-filter (λ (q : Placed). headSize ≤ q .at) (inTable u) rs (above headSize qs))) k
-
-  hash-there : (k : ℕ) → k < 2 * count u ps → word B (entriesEnd es + 16 * entriesBefore u ps + 8 * k) ≡ getD (tableWith ps rs u) k empty .hash
-  unfolding B ps rs bucketBytes tablesWith
-  hash-there k h =
-      let b = getD (tableWith ps rs u) k empty in
-      at-word (b .hash)
-      (at-left (le32 (b .hash)) (le32 (b .at))
-      (bucket-of (placedIn es) (tableWith ps rs) (length-tableWith ps rs) (entriesEnd es) (tables-there mode es qs tail) u k u-below h))
-      (hash-small k)
-
   -- the bytes up to the end of the entries
   front-there : take (entriesEnd es) B ≡ upToEntries mode es
   unfolding B partial
@@ -295,10 +274,7 @@ module _ (mode : Mode) (es qs rest : List Entry) (e : Entry) (tail : List ℕ) (
 
   table-held : TableIs (2 * count u ps) (bucketAt B (entriesEnd es + 16 * entriesBefore u ps)) (map bucketOf (ofTable u rs))
   unfolding tableWith
-  table-held = record { each = λ k h. same-bucket (hash-there k h) (bucket-there k h) }
-    where
-      same-bucket : {a b c d : ℕ} → a ≡ c → b ≡ d → _≡_ {A = Bucket} (record { hash = a; at = b }) (record { hash = c; at = d })
-      same-bucket p q = λ i. record { hash = p i; at = q i }
+  table-held = record { each = bucket-there }
 
   -- its search met no entry of equal name: no earlier entry of its table and hash has its name
   pub row-apart : RowUnmet (partial mode es qs ++ tail) (entriesEnd es) (hashOf (e .name)) (headSize + entriesSize qs)
@@ -363,13 +339,10 @@ module _ (mode : Mode) (es qs rest : List Entry) (e : Entry) (tail : List ℕ) (
       let L = backWords rs (backSizeOf mode es) in
       let F = U ++ tablesWith ps (rs ++ p ∷ []) in
       let n : length F ≡ entriesEnd es + 16 * length es =
-      length-append U (tablesWith ps (rs ++ p ∷ [])) ∙ sum (length U) (length (tablesWith ps (rs ++ p ∷ []))) (length-upToEntries mode es)
-      (length-tablesWith ps (rs ++ p ∷ [])) in
-      ap (λ (name : List ℕ). backStored mode (insertedByRow B (hashOf name) at) (backOffset mode es) (word B at) at) name-read
+      let T = tablesWith ps (rs ++ p ∷ []) in
+      omega (arith, length-append U T, length-upToEntries mode es, length-tablesWith ps (rs ++ p ∷ []), length-placed headSize es) in
+      ap (λ (name : List ℕ). backStored mode (insertedByRow B (hashOf name) at) (backOffset mode es) (word B at) at) name-found
       ∙ ap (λ (l : List ℕ). backStored mode l (backOffset mode es) (word B at) at) with-pair
       ∙ ap (λ (i : ℕ). backStored mode (F ++ L ++ tail) (backOffset mode es) i at) (id-word e here id-small)
       ∙ linked mode es rs p F tail n id-below
       ∙ ap (λ (l : List Placed). U ++ tablesWith ps l ++ backWords l (backSizeOf mode es) ++ tail) (sym (placed-more qs e))
-    where
-      sum : (a b : ℕ) → a ≡ entriesEnd es → b ≡ 16 * length (placedIn es) → a + b ≡ entriesEnd es + 16 * length es
-      sum a b h k = omega (arith, length-placed headSize es)

@@ -3,7 +3,7 @@
 use Prim.Native.Nat.{ℕ, suc, _+_, _-_, _*_, _%_, _≤_, _<_}
 use native.Mathlib.Omega.{arith}
 use mathlib.Core.Path.{_≡_, sym, ap, ap₂, subst, _∙_}
-use mathlib.Core.Bool.{Bool, true, false, cond, _||_}
+use mathlib.Core.Bool.{Bool, true, false, cond, _||_, _&&_}
 use mathlib.Core.List.{List, _++_}
 use lib.ListN.{length, take, drop, replicate}
 use lib.Seq.{sets}
@@ -18,11 +18,12 @@ use Rattle.image.proofs.Between.{entry-room}
 use Rattle.image.specs.Stored.{between}
 use Rattle.image.specs.Tables.{start, probeSequence, firstEmpty}
 use Rattle.image.specs.steps.EntryLength.{wholeLength}
-use Rattle.image.specs.steps.Contracts.{BucketIs, TableIn, offsetAt}
+use Rattle.image.specs.steps.Contracts.{BucketIs, offsetAt}
 use Rattle.image.proofs.Bools.{false-not-true, or-false-first, or-false-second}
 use Rattle.serialize.specs.steps.Insertion.{holdsTable, inserted, insertedByRow, EntryPre, entryHash}
 use Rattle.serialize.specs.steps.Insertion.{backStored, entryInserted, InsertEntriesPre, insertedFrom}
-use Rattle.serialize.specs.steps.Meeting.{nameIn, Unmet, ProbePre, Probed, PairInserted, RowUnmet, RowInserted, EntryInserted, UnmetFrom, EntriesInserted, SinglyDone}
+use Rattle.serialize.specs.steps.Meeting.{nameIn, Unmet, ProbePre, Probed, PairInserted, RowUnmet, RowInserted, EntryInserted, UnmetFrom}
+use Rattle.serialize.specs.steps.Meeting.{EntriesInserted, SinglyDone}
 use Rattle.serialize.specs.steps.Written.{zeroed}
 
 -- ---- a pair
@@ -43,12 +44,6 @@ pair-inserted buf end o n h at k found p hash-word offset-word =
       unmet = found .unmet;
     }
 
--- in a buffer that is still as it was
-pub inserted-as : {buf buf₀ after : List ℕ} {end o n h at : ℕ} {met : Bool} → buf ≡ buf₀ → PairInserted buf end o n h at after met
-    → PairInserted buf₀ end o n h at after met
-inserted-as {after = after} {end = end} {o = o} {n = n} {h = h} {at = at} {met = met} e done =
-    subst (λ (b : List ℕ). PairInserted b end o n h at after met) e done
-
 -- the name of an entry, as it is read
 pub name-in-read : (f : List ℕ) (at n : ℕ) {name : List ℕ} → n ≡ wholeLength (between f at (length f)) → name ≡ take (n - 1) (drop (at + 8) f)
     → name ≡ nameIn f at
@@ -58,6 +53,11 @@ name-in-read f at n is e = e ∙ ap (λ (k : ℕ). take (k - 1) (drop (at + 8) f
 -- a test that was true
 pub not-met : {A : Type 0} → true ≡ false → A
 not-met z = absurd (false-not-true (sym z))
+
+-- where an entry met one of equal name and `stop` is set, nothing is said of the bytes
+pub stopped : {A : Type 0} (stop one : Bool) → (stop && one) ≡ true → (stop && true) ≡ false → A
+stopped true one e z = not-met z
+stopped false one e z = not-met (sym e)
 
 -- the first empty bucket, where an entry of equal name was met
 pub restarted : (buf : List ℕ) (end o n h at i k : ℕ) → BucketIs (start h n) n i → BucketIs (firstEmpty (offsetAt buf o) (probeSequence n n i)) n k
@@ -97,8 +97,8 @@ module _ (buf : List ℕ) (h at : ℕ) {o n : ℕ} {b : Bool} (is-o : o ≡ word
 
 -- ---- an entry
 
-pub entry-inserted : (mode : Mode) (back-offset : ℕ) (buf : List ℕ) (end at n : ℕ) {id h : ℕ} {b1 b2 : List ℕ} {met : Bool} → id ≡ word buf at → h ≡ entryHash buf at n
-    → RowInserted buf end h at b1 met → b2 ≡ backStored mode b1 back-offset id at → EntryInserted mode back-offset buf end at n b2 met
+pub entry-inserted : (mode : Mode) (back-offset : ℕ) (buf : List ℕ) (end at n : ℕ) {id h : ℕ} {b1 b2 : List ℕ} {met : Bool} → id ≡ word buf at
+    → h ≡ entryHash buf at n → RowInserted buf end h at b1 met → b2 ≡ backStored mode b1 back-offset id at → EntryInserted mode back-offset buf end at n b2 met
 unfolding entryInserted
 entry-inserted mode back-offset buf end at n ei eh p q =
     record {
@@ -124,7 +124,8 @@ pub record Inserting (mode : Mode) (back-offset end entries : ℕ) (buf₀ buf :
   pub leaves : insertedFrom mode back-offset end left at buf ≡ insertedFrom mode back-offset end entries 2072 buf₀
   pub unmet : met ≡ false → UnmetFrom mode back-offset end left at buf → UnmetFrom mode back-offset end entries 2072 buf₀
 
-module _ {mode : Mode} {back-offset end entries : ℕ} {buf₀ buf : List ℕ} {at left : ℕ} {met : Bool} (inv : Inserting mode back-offset end entries buf₀ buf at left met) where
+module _ {mode : Mode} {back-offset end entries : ℕ} {buf₀ buf : List ℕ} {at left : ℕ} {met : Bool}
+    (inv : Inserting mode back-offset end entries buf₀ buf at left met) where
   abbrev from : ℕ → List ℕ
   from n = insertedFrom mode back-offset end (left - 1) (at + (8 + n)) (entryInserted mode back-offset buf at n)
 
@@ -135,8 +136,8 @@ module _ {mode : Mode} {back-offset end entries : ℕ} {buf₀ buf : List ℕ} {
         let m : suc (left - 1) ≡ left = omega arith in
         ap (λ (k : ℕ). cond (eqb k 0) buf (from k)) is ∙ ap (λ (k : ℕ). insertedFrom mode back-offset end k at buf) m ∙ inv .leaves
 
-    pub inserted-broken : n ≡ 0 → EntriesInserted mode back-offset end entries buf₀ buf true
-    inserted-broken z = record { leaves = sym (ap (λ (b : Bool). cond b buf (from n)) (eq-eqb n 0 z)) ∙ next; unmet = not-met }
+    pub inserted-broken : (stop : Bool) → n ≡ 0 → EntriesInserted stop mode back-offset end entries buf₀ buf true
+    inserted-broken stop z = record { leaves = λ _. sym (ap (λ (b : Bool). cond b buf (from n)) (eq-eqb n 0 z)) ∙ next; unmet = not-met }
 
     -- the first meets none, and then the others
     abbrev Both : ℕ → Type 0
@@ -147,8 +148,8 @@ module _ {mode : Mode} {back-offset end entries : ℕ} {buf₀ buf : List ℕ} {
         let m : suc (left - 1) ≡ left = omega arith in
         inv .unmet z (subst (λ (k : ℕ). UnmetFrom mode back-offset end k at buf) m (subst Both is two))
 
-    pub inserted-step : (n ≡ 0 → ⊥) → at + (8 + n) ≤ end → (buf′ : List ℕ) → length buf′ ≡ length buf → {one : Bool} → EntryInserted mode back-offset buf end at n buf′ one
-        → Inserting mode back-offset end entries buf₀ buf′ (at + (8 + n)) (left - 1) (met || one)
+    pub inserted-step : (n ≡ 0 → ⊥) → at + (8 + n) ≤ end → (buf′ : List ℕ) → length buf′ ≡ length buf → {one : Bool}
+        → EntryInserted mode back-offset buf end at n buf′ one → Inserting mode back-offset end entries buf₀ buf′ (at + (8 + n)) (left - 1) (met || one)
     inserted-step some before buf′ same {one} done = record {
       inside = before;
       long = same ∙ inv .long;
@@ -160,16 +161,18 @@ module _ {mode : Mode} {back-offset end entries : ℕ} {buf₀ buf : List ℕ} {
           (done .unmet (or-false-second met one z), subst (UnmetFrom mode back-offset end (left - 1) (at + (8 + n))) (done .leaves) rest);
     }
 
-  pub inserted-all : left ≡ 0 → EntriesInserted mode back-offset end entries buf₀ buf met
+  pub inserted-all : (stop : Bool) → left ≡ 0 → EntriesInserted stop mode back-offset end entries buf₀ buf met
   unfolding insertedFrom
-  inserted-all e =
+  inserted-all stop e =
       record {
-        leaves = sym (ap (λ (k : ℕ). insertedFrom mode back-offset end k at buf) e) ∙ inv .leaves;
+        leaves = λ _. sym (ap (λ (k : ℕ). insertedFrom mode back-offset end k at buf) e) ∙ inv .leaves;
         unmet = λ z. inv .unmet z (subst (λ (k : ℕ). UnmetFrom mode back-offset end k at buf) (sym e) tt);
       }
 
 -- from cleared tables and back array
-pub inserted-in : (mode : Mode) (back-offset end entries size : ℕ) (buf : List ℕ) {b1 b2 : List ℕ} {met : Bool} → b1 ≡ sets buf end (replicate (size - end) 0)
-    → EntriesInserted mode back-offset end entries b1 b2 met → SinglyDone mode back-offset end entries size buf b2 met
+pub inserted-in : {stop : Bool} (mode : Mode) (back-offset end entries size : ℕ) (buf : List ℕ) {b1 b2 : List ℕ} {met : Bool}
+    → b1 ≡ sets buf end (replicate (size - end) 0) → EntriesInserted stop mode back-offset end entries b1 b2 met
+    → SinglyDone stop mode back-offset end entries size buf b2 met
 unfolding zeroed
-inserted-in mode back-offset end entries size buf {b1} {b2} {met} p q = subst (λ (b : List ℕ). EntriesInserted mode back-offset end entries b b2 met) p q
+inserted-in {stop} mode back-offset end entries size buf {b1} {b2} {met} p q =
+    subst (λ (b : List ℕ). EntriesInserted stop mode back-offset end entries b b2 met) p q

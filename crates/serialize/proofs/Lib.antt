@@ -3,6 +3,7 @@ pub mod OrAll
 pub mod HeadStores
 pub mod HeadRows
 pub mod PartialImage
+pub mod Choices
 pub mod Cleared
 pub mod EntryAdded
 pub mod Pairwise

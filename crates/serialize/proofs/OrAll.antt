@@ -17,15 +17,11 @@ module _ (counts : List ℕ) where
   -- one step of the loop: one more count is joined
   pub or-more : (t a : ℕ) → ((i : ℕ) → i < t → getD counts i 0 ≤ a)
       → (i : ℕ) → i < t + 1 → getD counts i 0 ≤ bitOr a (getD counts t 0)
-  or-more t a h i k = elim (decLt i t) [ yes p ↦ older p | no p ↦ newest p ]
-    where
-      older : i < t → getD counts i 0 ≤ bitOr a (getD counts t 0)
-      older p = omega (arith, h i p, le-or-l a (getD counts t 0))
-
-      newest : (i < t → ⊥) → getD counts i 0 ≤ bitOr a (getD counts t 0)
-      newest p =
-          let e : i ≡ t = omega (arith, p) in
-          rw e (le-or-r a (getD counts t 0))
+  or-more t a h i k =
+      elim (decLt i t) [
+        | yes p ↦ omega (arith, h i p, le-or-l a (getD counts t 0))
+        | no p ↦ let e : i ≡ t = omega (arith, p) in rw e (le-or-r a (getD counts t 0))
+      ]
 
   -- a bound of all counts that the entries reach settles that none is above them
   pub bounded : (a entries : ℕ) → ((t : ℕ) → t < 256 → getD counts t 0 ≤ a) → a ≤ entries → true ≡ noneAbove counts entries

@@ -1,11 +1,12 @@
 -- What holds of each two elements of a list, and of those that pass a test. Assumes nothing.
-use mathlib.Core.Path.{_≡_, refl}
+use mathlib.Core.Path.{_≡_}
 use mathlib.Core.Bool.{Bool, true, false, cond}
 use mathlib.Core.List.{List, [], _∷_, _++_, map}
 use Rattle.image.specs.Bytes.{filter}
 use Rattle.image.proofs.AllOfList.{All, all-append}
 use Rattle.image.proofs.Bools.{false-not-true}
 use Rattle.serialize.specs.steps.Meeting.{Pairwise}
+use Rattle.serialize.proofs.Choices.{cond-holds}
 
 pub all-before : {A : Type 0} (P : A → Type 0) (xs ys : List A) → All P (xs ++ ys) → All P xs
 all-before P [] ys all = tt
@@ -22,19 +23,16 @@ pub all-tested : {A B : Type 0} (P : B → Type 0) (f : A → B) (test : A → B
     → All (λ (x : A). test x ≡ true → P (f x)) xs
 unfolding filter
 all-tested P f test [] all = tt
-all-tested {A} P f test (x ∷ xs) all = go (test x) (all-tested P f test xs) all
+all-tested {A} P f test (x ∷ xs) all = first (test x) (all-tested P f test xs) all
   where
-    go : (t : Bool) → (All P (map f (filter test xs)) → All (λ (y : A). test y ≡ true → P (f y)) xs) → All P (map f (cond t (x ∷ filter test xs) (filter test xs)))
-        → (t ≡ true → P (f x)) × All (λ (y : A). test y ≡ true → P (f y)) xs
-    go true rest all = (λ e. all .0, rest (all .1))
-    go false rest all = (λ e. absurd (false-not-true e), rest all)
+    first : (t : Bool) {Q : Type 0} → (All P (map f (filter test xs)) → Q) → All P (map f (cond t (x ∷ filter test xs) (filter test xs)))
+        → (t ≡ true → P (f x)) × Q
+    first true rest all = (λ e. all .0, rest (all .1))
+    first false rest all = (λ e. absurd (false-not-true e), rest all)
 
 -- of two lists, the first of which passes
 pub pairwise-rest : {A B : Type 0} (R : B → B → Type 0) (f : A → B) (test : A → Bool) (x : A) (xs : List A)
     → Pairwise R (map f (filter test (x ∷ xs))) → Pairwise R (map f (filter test xs))
 unfolding filter
-pairwise-rest {A} R f test x xs two = go (test x) two
-  where
-    go : (t : Bool) → Pairwise R (map f (cond t (x ∷ filter test xs) (filter test xs))) → Pairwise R (map f (filter test xs))
-    go true two = two .1
-    go false two = two
+pairwise-rest {A} R f test x xs =
+    cond-holds (λ (l : List A). Pairwise R (map f l) → Pairwise R (map f (filter test xs))) (test x) (λ two. two .1) (λ two. two)

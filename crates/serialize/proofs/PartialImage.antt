@@ -76,17 +76,16 @@ module _ (mode : Mode) (es qs : List Entry) (tail : List ℕ) where
 
   pub entries-there : At (partial mode es qs ++ tail) headSize (cat entryBytes es)
   unfolding B H R E
-  entries-there = at-same sum (five-3 H R E T L whole)
-    where
-      sum : length H + length R ≡ 2072
-      sum = omega (arith, length-headWords mode es, length-tableRows (entriesEnd es) (placedIn es))
+  entries-there =
+      let sum : length H + length R ≡ 2072 = omega (arith, length-headWords mode es, length-tableRows (entriesEnd es) (placedIn es)) in
+      at-same sum (five-3 H R E T L whole)
 
   pub tables-there : At (partial mode es qs ++ tail) (entriesEnd es) (tablesWith (placedIn es) (placedIn qs))
   unfolding B H R E T
-  tables-there = at-same sum (five-4 H R E T L whole)
-    where
-      sum : length H + length R + length E ≡ entriesEnd es
-      sum = omega (arith, length-headWords mode es, length-tableRows (entriesEnd es) (placedIn es), length-entries es)
+  tables-there =
+      let rows = length-tableRows (entriesEnd es) (placedIn es) in
+      let sum : length H + length R + length E ≡ entriesEnd es = omega (arith, length-headWords mode es, rows, length-entries es) in
+      at-same sum (five-4 H R E T L whole)
 
 -- the entries from one of them on, in any bytes where they stand
 pub entries-after : {img : List ℕ} (es rest done : List Entry) → At img headSize (cat entryBytes es) → es ≡ done ++ rest

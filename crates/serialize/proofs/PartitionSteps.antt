@@ -3,7 +3,7 @@
 use Prim.Native.Nat.{ℕ, suc, _+_, _-_, _*_, _%_, _≤_, _<_}
 use native.Mathlib.Omega.{arith}
 use mathlib.Core.Path.{_≡_, refl, sym, ap, ap₂, subst, _∙_}
-use mathlib.Core.Bool.{Bool, true, false, cond}
+use mathlib.Core.Bool.{Bool, cond}
 use mathlib.Core.List.{List, _++_}
 use lib.ListN.{length, getD, set, take}
 use lib.Seq.{sets}
@@ -18,8 +18,9 @@ use Rattle.image.specs.Stored.{between}
 use Rattle.image.specs.steps.EntryLength.{wholeLength}
 use Rattle.serialize.specs.steps.Insertion.{entryHash, backStored}
 use Rattle.serialize.specs.steps.Partition.{tableOffsetsFrom, pairPut, advanced, PairAppended, partitioned, EntryPartitioned, partitionedFrom}
-use Rattle.serialize.specs.steps.Partition.{pairsStored, tableStored, tableFilled, tablesFrom}
+use Rattle.serialize.specs.steps.Partition.{pairsStored, tableFilled, tablesFrom}
 use Rattle.serialize.specs.steps.Meeting.{Apart, TablesApart}
+use Rattle.serialize.proofs.Choices.{cond-holds}
 
 -- ---- a pair
 
@@ -90,9 +91,10 @@ module _ {mode : Mode} {back-offset end entries : ℕ} {places₀ buf₀ places 
       inside = before;
       long = same ∙ inv .long;
       leaves =
-          ap₂ (λ (q : List ℕ) (l : List ℕ). partitionedFrom mode back-offset end (left - 1) (at + (8 + n)) q l) (done .moved) (done .stored)
-          ∙ ap (λ (i : ℕ). partitionedFrom mode back-offset end (left - 1) (at + (8 + n)) (advanced places h) (partitioned mode back-offset places buf at i h)) ei
-          ∙ ap (λ (i : ℕ). partitionedFrom mode back-offset end (left - 1) (at + (8 + n)) (advanced places i) (partitioned mode back-offset places buf at (word buf at) i)) eh
+          ap₂ (λ (q l : List ℕ). partitionedFrom mode back-offset end (left - 1) (at + (8 + n)) q l) (done .moved) (done .stored)
+          ∙ ap₂ (λ (i k : ℕ). partitionedFrom mode back-offset end (left - 1) (at + (8 + n)) (advanced places k)
+          (partitioned mode back-offset places buf at i k))
+          ei eh
           ∙ sym (ap (λ (b : Bool). cond b buf (from n)) (ne-eqb n 0 some))
           ∙ next;
     }
@@ -117,11 +119,9 @@ tables-step counts buf x o t n c h ec e inv =
 -- no byte before the table changes
 pub front-kept : (buf : List ℕ) (end o c : ℕ) → end ≤ o → take end (tableFilled buf o c) ≡ take end buf
 unfolding tableFilled
-front-kept buf end o c behind = go (leb (o + 16 * c) (length buf))
-  where
-    go : (b : Bool) → take end (cond b (tableStored buf o c (pairsStored buf o c)) buf) ≡ take end buf
-    go true = take-sets (cat bucketBytes (filled (2 * c) (pairsStored buf o c))) buf end o behind
-    go false = refl
+front-kept buf end o c behind =
+    cond-holds (λ (l : List ℕ). take end l ≡ take end buf) (leb (o + 16 * c) (length buf))
+    (take-sets (cat bucketBytes (filled (2 * c) (pairsStored buf o c))) buf end o behind) refl
 
 -- one table more is apart
 pub apart-next : (front counts buf : List ℕ) (o t n c : ℕ) {buf′ : List ℕ} {X : Type 0} → t < n → c ≡ getD counts t 0 → buf′ ≡ tableFilled buf o c
@@ -130,10 +130,8 @@ apart-next front counts buf o t n c {buf′} {X} h ec e inv one rest =
     let m : suc (n - (t + 1)) ≡ n - t = omega arith in
     let st : t + 1 ≡ suc t = omega arith in
     let Both : ℕ → Type 0 = λ k. Apart front (pairsStored buf o k) × TablesApart front counts (o + 16 * k) (suc t) (n - (t + 1)) (tableFilled buf o k) in
-    inv
-    (subst (λ (k : ℕ). TablesApart front counts o t k buf) m
-    (subst Both ec
-    (one, subst (λ (l : List ℕ). TablesApart front counts (o + 16 * c) (suc t) (n - (t + 1)) l) e (subst (λ (k : ℕ). TablesApart front counts (o + 16 * c) k (n - (t + 1)) buf′) st rest))))
+    let Rest : ℕ → Type 0 = λ k. TablesApart front counts (o + 16 * c) k (n - (t + 1)) (tableFilled buf o c) in
+    inv (subst (λ (k : ℕ). TablesApart front counts o t k buf) m (subst Both ec (one, subst (λ (k : ℕ). Rest k) st (rw e at rest))))
 
 pub tables-end : (counts buf x : List ℕ) (o t : ℕ) → tablesFrom counts o t 0 buf ≡ x → buf ≡ x
 unfolding tablesFrom

@@ -29,12 +29,13 @@ use Rattle.serialize.specs.steps.Insertion.{entryHash, backStored}
 use Rattle.serialize.specs.steps.Partition.{pairPut, advanced, partitioned, partitionedFrom, tableOffsetsFrom}
 use Rattle.serialize.proofs.HeadRows.{Counts}
 use Rattle.serialize.proofs.PartialImage.{upToEntries, length-upToEntries, entries-after}
-use Rattle.serialize.proofs.InsertStep.{nextOf, next-at, placed-more, store-in, linked, entry-there, length-there, name-there, own-below, id-small, id-below, one-there, name-short, ends-there}
+use Rattle.serialize.proofs.InsertStep.{nextOf, next-at, placed-more, store-in, linked}
+use Rattle.serialize.proofs.InsertStep.{entry-there, length-there, name-there, own-below, id-small, id-below, one-there, name-short, ends-there}
 use Rattle.serialize.proofs.TableAreas.{areaWith, length-areas, length-areaWith, count-own, count-other, areas-more}
 
 -- ---- the entries in an image whose tables are not made yet
 
-entries-in : (mode : Mode) (es : List Entry) (rest : List ℕ) → At (upToEntries mode es ++ rest) headSize (cat entryBytes es)
+pub entries-in : (mode : Mode) (es : List Entry) (rest : List ℕ) → At (upToEntries mode es ++ rest) headSize (cat entryBytes es)
 unfolding upToEntries
 entries-in mode es rest =
     let H = headWords mode es in
@@ -74,14 +75,10 @@ module _ (counts : List ℕ) (end : ℕ) (ps : List Placed) (tallies : Counts co
   unfolding entriesBefore
   places-begin = rw whole (record { many = length-begin 256 0 end; each = each })
     where
-      R : List ℕ
-      R = tableOffsetsFrom counts end 0 256
-
-      zeros : List ℕ
-      zeros = replicate 256 0
-
       whole : sets (replicate 256 0) 0 (tableOffsetsFrom counts end 0 256) ≡ tableOffsetsFrom counts end 0 256
       whole =
+          let R = tableOffsetsFrom counts end 0 256 in
+          let zeros : List ℕ = replicate 256 0 in
           ap (λ (l : List ℕ). sets l 0 R) (sym (append-nil zeros))
           ∙ sets-whole R zeros [] (length-begin 256 0 end ∙ sym (length-replicate {A = ℕ} 256 0))
           ∙ append-nil R
@@ -183,17 +180,11 @@ module _ (mode : Mode) (F : List ℕ) (es : List Entry) (X tail : List ℕ) (fro
         (sym (placed-more qs e))
 
     pub half-places : Places (entriesEnd es) (placedIn es) (placedIn (qs ++ e ∷ [])) (advanced places (hashOf (e .name)))
-    unfolding advanced
+    unfolding advanced u ps rs
     half-places = rw (placed-more qs e) (record { many = length-set places u v ∙ next .many; each = λ t h. its-place t h (ℕ-discrete t u) })
       where
-        u : ℕ
-        u = tableOf (hashOf (e .name))
-
         v : ℕ
         v = (getD places (tableOf (hashOf (e .name))) 0 + 8) % 4294967296
-
-        there : getD places (tableOf (hashOf (e .name))) 0 ≡ entriesEnd es + 16 * entriesBefore (tableOf (hashOf (e .name))) (placedIn es) + 8 * count (tableOf (hashOf (e .name))) (placedIn qs)
-        there = next .each (tableOf (hashOf (e .name))) (own-below mode es qs rest e tail split fits ids)
 
         its-place : (t : ℕ) → t < 256 → Dec (t ≡ tableOf (hashOf (e .name)))
             → getD (set places (tableOf (hashOf (e .name))) ((getD places (tableOf (hashOf (e .name))) 0 + 8) % 4294967296)) t 0
@@ -203,11 +194,11 @@ module _ (mode : Mode) (F : List ℕ) (es : List Entry) (X tail : List ℕ) (fro
             let x = getD places w 0 + 8 in
             let below = own-below mode es qs rest e tail split fits ids in
             let one = one-there mode es qs rest e tail split fits ids in
-            let small : x < 4294967296 = omega (arith, there, before-most (placedIn es) w below, length-placed headSize es) in
+            let small : x < 4294967296 = omega (arith, place-there, before-most (placedIn es) w below, length-placed headSize es) in
             rw y
             (getD-set-same places w (x % 4294967296) 0 (omega (arith, next .many))
             ∙ mod-eq-of-lt small
-            ∙ omega (arith, there, count-own (placedIn es) X long (placedIn qs) (nextOf qs e)))
+            ∙ omega (arith, place-there, count-own (placedIn es) X long (placedIn qs) (nextOf qs e)))
         its-place t h (no z) =
             let w = tableOf (hashOf (e .name)) in
             getD-set-other places w t ((getD places w 0 + 8) % 4294967296) 0 z
@@ -243,7 +234,8 @@ module _ (mode : Mode) (es : List Entry) (X tail : List ℕ) (long : length X �
 
   pub half-walked : imageSize mode es ≤ 4294967295 → All (λ (x : Entry). x .id < 2 ^ 32) es → (rest qs : List Entry) → es ≡ qs ++ rest → (places : List ℕ)
       → Places (entriesEnd es) (placedIn es) (placedIn qs) places
-      → partitionedFrom mode (backOffset mode es) (entriesEnd es) (length rest) (headSize + entriesSize qs) places (halfway mode (upToEntries mode es) es X qs tail)
+      → partitionedFrom mode (backOffset mode es) (entriesEnd es) (length rest) (headSize + entriesSize qs) places
+      (halfway mode (upToEntries mode es) es X qs tail)
       ≡ halfway mode (upToEntries mode es) es X es tail
   unfolding partitionedFrom
   half-walked fits ids [] qs split places next = ap (λ (l : List Entry). halfway mode U es X l tail) (sym (split ∙ append-nil qs))

@@ -1,22 +1,22 @@
 -- The bytes where the tables will stand, while close partitions the entries: for each table the pairs of its entries in put order, and
 -- behind them what stood there. Assumes nothing.
-use Prim.Native.Nat.{ℕ, zero, suc, _+_, _*_, _-_, _^_, _≤_, _<_}
+use Prim.Native.Nat.{ℕ, zero, suc, _+_, _*_, _-_, _≤_, _<_}
 use native.Mathlib.Omega.{arith}
 use mathlib.Core.Path.{_≡_, refl, sym, ap, ap₂, _∙_}
 use mathlib.Core.List.{List, [], _∷_, _++_, map, map-append, append-nil, append-assoc}
 use lib.ListN.{length, getD, take, drop, length-append, length-drop, length-map}
 use lib.Seq.{sets, sets-eq, take-add, take-all, take-suc, length-take-le, drop-drop}
-use Rattle.image.specs.Bytes.{word, le32, cat, filter, range}
+use Rattle.image.specs.Bytes.{cat, filter, range}
 use Rattle.image.specs.Tables.{Bucket, empty}
 use Rattle.image.specs.Image.{Placed, ofTable, count, bucketOf, bucketBytes, entriesBefore}
 use Rattle.image.proofs.Lists.{cat-append, cat-ext, length-cat, range-at, run-more}
 use Rattle.image.proofs.Sizes.{length-bucketBytes, before-all}
 use Rattle.image.proofs.Stores.{sets-right-at, sets-run}
 use Rattle.image.proofs.Parts.{before-most}
-use Rattle.image.proofs.At.{At, at-same, at-equal, at-left, at-after, at-part, at-word, at-second}
+use Rattle.image.proofs.At.{At, at-same, at-equal, at-after, at-part}
 use Rattle.image.proofs.AllOfList.{All}
 use Rattle.serialize.specs.steps.Partition.{pairsStored}
-use Rattle.serialize.proofs.EntryAdded.{ownTable, ofTable-own, ofTable-other}
+use Rattle.serialize.proofs.EntryAdded.{ownTable, ofTable-own, ofTable-other, Words, bucket-read}
 
 -- ---- runs of bytes of the sizes that the tables have
 
@@ -25,12 +25,8 @@ module _ (ps : List Placed) (f : ℕ → List ℕ) (sized : (t : ℕ) → t < 25
   unfolding cat range entriesBefore
   length-areas-to zero h = refl
   length-areas-to (suc t) h =
-      ap length (run-more f t)
-      ∙ length-append (cat f (range 0 t)) (f t)
-      ∙ sum (length (cat f (range 0 t))) (length (f t)) (length-areas-to t (omega arith)) (sized t (omega arith))
-    where
-      sum : (a b : ℕ) → a ≡ 16 * entriesBefore t ps → b ≡ 16 * count t ps → a + b ≡ 16 * (entriesBefore t ps + count t ps)
-      sum a b p q = omega arith
+      let sum = length-append (cat f (range 0 t)) (f t) in
+      omega (arith, ap length (run-more f t) ∙ sum, length-areas-to t (omega arith), sized t (omega arith))
 
   pub length-areas : length (cat f (range 0 256)) ≡ 16 * length ps
   length-areas = length-areas-to 256 (omega arith) ∙ ap (λ (n : ℕ). 16 * n) (before-all ps)
@@ -98,12 +94,8 @@ module _ (ps : List Placed) (X : List ℕ) (long : length X ≡ 16 * length ps) 
   pub length-areaWith : (t : ℕ) → t < 256 → count t rs ≤ count t ps → length (areaWith ps X rs t) ≡ 16 * count t ps
   unfolding areaWith
   length-areaWith t h k =
-      length-append (pairsOf rs t) (drop (8 * count t rs) (tableArea ps X t))
-      ∙ sum (length (pairsOf rs t)) (length (drop (8 * count t rs) (tableArea ps X t))) (length-pairsOf rs t)
-      (length-drop (8 * count t rs) (tableArea ps X t)) (length-area t h)
-    where
-      sum : (a b : ℕ) {n : ℕ} → a ≡ 8 * count t rs → b ≡ n - 8 * count t rs → n ≡ 16 * count t ps → a + b ≡ 16 * count t ps
-      sum a b p q r = omega arith
+      let D = drop (8 * count t rs) (tableArea ps X t) in
+      omega (arith, length-append (pairsOf rs t) D, length-pairsOf rs t, length-drop (8 * count t rs) (tableArea ps X t), length-area t h)
 
   module _ (p : Placed) where
     pub count-own : count (ownTable p) (rs ++ p ∷ []) ≡ count (ownTable p) rs + 1
@@ -150,9 +142,6 @@ module _ (ps : List Placed) (X : List ℕ) (long : length X ≡ 16 * length ps) 
 
 -- ---- pairs as they are read
 
-abbrev pub Words : Bucket → Type 0
-Words b = (b .hash < 2 ^ 32) × (b .at < 2 ^ 32)
-
 each-one : (P : Bucket → Type 0) → P empty → (bs : List Bucket) → All P bs → (k : ℕ) → P (getD bs k empty)
 each-one P none [] all k = none
 each-one P none (b ∷ bs) all zero = all .0
@@ -164,12 +153,9 @@ module _ {img : List ℕ} (o : ℕ) (bs : List Bucket) (there : At img o (cat bu
   read zero h = refl
   read (suc c) h =
       let b = getD bs c empty in
-      let w : Words b = each-one Words (omega arith, omega arith) bs words c in
       let at = at-part bucketBytes 8 length-bucketBytes o bs c empty there (omega arith) in
-      let x : word img (o + 8 * c) ≡ b .hash = at-word (b .hash) (at-left (le32 (b .hash)) (le32 (b .at)) at) (w .0) in
-      let y : word img (o + 8 * c + 4) ≡ b .at = at-word (b .at) (at-second (b .hash) (b .at) at) (w .1) in
-      ap (λ (l : List Bucket). l ++ (record { hash = word img (o + 8 * c); at = word img (o + 8 * c + 4) } ∷ [])) (read c (omega arith))
-      ∙ ap₂ (λ (i : ℕ) (j : ℕ). take c bs ++ (record { hash = i; at = j } ∷ [])) x y
+      let is = bucket-read o c b at (each-one Words (omega arith, omega arith) bs words c) in
+      ap₂ (λ (l : List Bucket) (x : Bucket). l ++ (x ∷ [])) (read c (omega arith)) is
       ∙ sym (take-suc bs c empty (omega arith))
 
   pub pairs-read : (c : ℕ) → c ≡ length bs → pairsStored img o c ≡ bs

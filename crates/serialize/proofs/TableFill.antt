@@ -1,6 +1,6 @@
 -- One table filled from its pairs: they are copied, its buckets are cleared, and each pair goes in its order into the
 -- first empty bucket of its search. Assumes nothing.
-use Prim.Native.Nat.{ℕ, zero, suc, _+_, _-_, _*_, _/_, _%_, _^_, _≤_, _<_}
+use Prim.Native.Nat.{ℕ, zero, suc, _+_, _-_, _*_, _/_, _≤_, _<_}
 use native.Mathlib.Omega.{arith}
 use native.Mathlib.Nat.{mod-lt}
 use native.Mathlib.Decide.{ℕ-discrete}
@@ -11,7 +11,7 @@ use lib.ListN.{length, getD, set, take, drop, replicate, length-replicate, lengt
 use lib.Seq.{sets, sets-eq, length-sets, length-take-le, getD-set-same, getD-set-other}
 use lib.Dec.{leb}
 use borrow.Author.Tests.{le-leb, lt-leb}
-use Rattle.image.specs.Bytes.{word, le32, cat}
+use Rattle.image.specs.Bytes.{word, cat}
 use Rattle.image.specs.Tables.{Bucket, empty, start, probeSequence, firstEmpty, atOf, insert, insertAll, filled, Filled as TableIs}
 use Rattle.image.specs.Image.{bucketBytes}
 use Rattle.image.proofs.Bools.{or-false-first, or-false-second}
@@ -19,15 +19,17 @@ use Rattle.image.proofs.Between.{take-sets}
 use Rattle.image.proofs.Lists.{length-cat}
 use Rattle.image.proofs.Sizes.{length-bucketBytes, length-filled, filled-more}
 use Rattle.image.proofs.Stores.{sets-whole, sets-part}
-use Rattle.image.proofs.AllOfList.{All, all-append, all-map}
+use Rattle.image.proofs.AllOfList.{All, all-append}
 use Rattle.image.proofs.Buckets.{filled-all, firstEmpty-ext}
-use Rattle.image.proofs.At.{At, at-whole, at-same, at-equal, at-left, at-right, at-word, at-second, at-part}
+use Rattle.image.proofs.At.{At, at-whole, at-same, at-equal, at-left, at-right, at-part}
+use Rattle.image.specs.steps.Contracts.{offsetAt}
 use Rattle.lookup_laws.proofs.SlotSearch.{none-equal}
 use Rattle.serialize.specs.steps.Insertion.{inserted}
 use Rattle.serialize.specs.steps.Meeting.{Pairwise, sameNames, OtherNames, Apart, bucketAt, PairInserted, PairsInserted, TableDone}
 use Rattle.serialize.specs.steps.Partition.{pairsStored, pairsIn, PairsCopied, tableStored, tableFilled}
+use Rattle.serialize.proofs.Choices.{cond-holds}
 use Rattle.serialize.proofs.PartialImage.{zeros-buckets}
-use Rattle.serialize.proofs.EntryAdded.{firstEmpty-below}
+use Rattle.serialize.proofs.EntryAdded.{firstEmpty-below, Words, bucket-read}
 use Rattle.serialize.proofs.InsertStep.{store-in}
 use Rattle.serialize.proofs.Insertion.{not-met}
 use Rattle.serialize.proofs.Pairwise.{all-before, pairwise-more}
@@ -44,10 +46,8 @@ pairs-suc copy c = refl
 length-pairs : (copy : List ℕ) (c : ℕ) → length (pairsIn copy c) ≡ c
 unfolding pairsIn
 length-pairs copy zero = refl
-length-pairs copy (suc c) = length-append (pairsIn copy c) _ ∙ one (length (pairsIn copy c)) c (length-pairs copy c)
-  where
-    one : (a b : ℕ) → a ≡ b → a + 1 ≡ suc b
-    one a b e = omega arith
+length-pairs copy (suc c) =
+    omega (arith, length-append (pairsIn copy c) (pairOf (getD copy (2 * c) 0) (getD copy (2 * c + 1) 0) ∷ []), length-pairs copy c)
 
 -- the pairs are in a copy of their words
 pub pairs-copied : {copy buf : List ℕ} {o c : ℕ} → PairsCopied copy buf o c → (k : ℕ) → k ≤ c → pairsIn copy k ≡ pairsStored buf o k
@@ -105,62 +105,41 @@ stored-at l vs o r =
     (at-left (take o l ++ vs) (drop (o + length vs) l) (at-equal (sets-eq vs l o r) (at-whole (sets l o vs)))))
 
 module _ (buf T-buf : List ℕ) (T : List Bucket) (o n : ℕ) (long : length T ≡ n) (inside : o + 8 * n ≤ length buf) (some : 0 < n)
-    (small : (k : ℕ) → atOf T k < 2 ^ 32) (is : T-buf ≡ sets buf o (cat bucketBytes T)) where
+    (small : (k : ℕ) → Words (getD T k empty)) (is : T-buf ≡ sets buf o (cat bucketBytes T)) where
   size : length (cat bucketBytes T) ≡ 8 * n
   size = length-cat bucketBytes 8 length-bucketBytes T ∙ ap (λ (k : ℕ). 8 * k) long
 
-  seen : (k : ℕ) → k < n → word (sets buf o (cat bucketBytes T)) (o + 8 * k + 4) ≡ atOf T k
-  unfolding bucketBytes
-  seen k h =
-      let b = getD T k empty in
-      at-word (b .at)
-      (at-second (b .hash) (b .at)
-      (at-part bucketBytes 8 length-bucketBytes o T k empty (stored-at buf (cat bucketBytes T) o (omega (arith, size))) (rw long h)))
-      (small k)
-
-  seen-hash : ((k : ℕ) → getD T k empty .hash < 2 ^ 32) → (k : ℕ) → k < n → word (sets buf o (cat bucketBytes T)) (o + 8 * k) ≡ getD T k empty .hash
-  unfolding bucketBytes
-  seen-hash hashes k h =
-      let b = getD T k empty in
-      at-word (b .hash)
-      (at-left (le32 (b .hash)) (le32 (b .at))
-      (at-part bucketBytes 8 length-bucketBytes o T k empty (stored-at buf (cat bucketBytes T) o (omega (arith, size))) (rw long h)))
-      (hashes k)
-
   -- the buckets that stand there
-  pub buckets-are : ((k : ℕ) → getD T k empty .hash < 2 ^ 32) → (k : ℕ) → k < n → bucketAt T-buf o k ≡ getD T k empty
-  buckets-are hashes k h =
-      let p : word T-buf (o + 8 * k) ≡ getD T k empty .hash = ap (λ (l : List ℕ). word l (o + 8 * k)) is ∙ seen-hash hashes k h in
-      let q : word T-buf (o + 8 * k + 4) ≡ getD T k empty .at = ap (λ (l : List ℕ). word l (o + 8 * k + 4)) is ∙ seen k h in
-      λ i. record { hash = p i; at = q i }
+  pub buckets-are : (k : ℕ) → k < n → bucketAt T-buf o k ≡ getD T k empty
+  buckets-are k h =
+      let there = stored-at buf (cat bucketBytes T) o (omega (arith, size)) in
+      ap (λ (l : List ℕ). bucketAt l o k) is
+      ∙ bucket-read o k (getD T k empty) (at-part bucketBytes 8 length-bucketBytes o T k empty there (rw long h)) (small k)
 
   pub area-step : (h at : ℕ) (buf′ : List ℕ) → buf′ ≡ inserted T-buf o n h at
       → buf′ ≡ sets buf o (cat bucketBytes (insert n T (record { hash = h; at = at })))
   unfolding inserted insert bucketBytes
   area-step h at buf′ e =
-      let B = sets buf o (cat bucketBytes T) in
       let s = start h n in
       let below : s < n = mod-lt (h / 256) some in
       let j = firstEmpty (atOf T) (probeSequence n n s) in
       let jn : j < n = firstEmpty-below (atOf T) n n s below in
       let b = pairOf h at in
+      let seen : (k : ℕ) → k < n → offsetAt T-buf o k ≡ atOf T k = λ k l. ap (λ (x : Bucket). x .at) (buckets-are k l) in
       e
-      ∙ ap (λ (l : List ℕ). sets l (o + 8 * firstEmpty (λ (k : ℕ). word l (o + 8 * k + 4)) (probeSequence n n s)) (bucketBytes b)) is
-      ∙ ap (λ (k : ℕ). sets B (o + 8 * k) (bucketBytes b)) (firstEmpty-ext (λ (k : ℕ). word B (o + 8 * k + 4)) (atOf T) n seen n s below)
+      ∙ ap (λ (k : ℕ). sets T-buf (o + 8 * k) (bucketBytes b)) (firstEmpty-ext (offsetAt T-buf o) (atOf T) n seen n s below)
+      ∙ ap (λ (l : List ℕ). sets l (o + 8 * j) (bucketBytes b)) is
       ∙ sets-within buf (cat bucketBytes T) (bucketBytes b) o (8 * j) (o + 8 * j) refl (omega (arith, size, length-bucketBytes b)) (omega (arith, size))
       ∙ ap (sets buf o) (sets-part bucketBytes 8 length-bucketBytes T j b (rw long jn))
 
 -- ---- a table from its pairs
-
-abbrev pub Small : List Bucket → Type 0
-Small bs = All (λ (b : Bucket). (b .hash < 2 ^ 32) × (b .at < 2 ^ 32)) bs
 
 -- i of the pairs are in the table of c entries at o
 pub record Filled (buf₀ pairs : List ℕ) (o c i : ℕ) (buf : List ℕ) : Type 0 where
   pub few : i ≤ c
   pub long : length buf ≡ length buf₀
   pub is : buf ≡ tableStored buf₀ o c (pairsIn pairs i)
-  pub small : Small (pairsIn pairs i)
+  pub small : All Words (pairsIn pairs i)
 
 -- the same, and if no entries of equal name met, the pairs are apart
 pub record Filling (buf₀ pairs : List ℕ) (end o c i : ℕ) (buf : List ℕ) (met : Bool) : Type 0 where
@@ -174,10 +153,7 @@ module _ (base : List ℕ) (o c : ℕ) (inside : o + 16 * c ≤ length base) (bu
 
   length-zeros : length zeros ≡ 16 * c
   unfolding zeros
-  length-zeros = length-replicate (o + 16 * c - o) 0 ∙ same o (16 * c)
-    where
-      same : (a b : ℕ) → a + b - a ≡ b
-      same a b = omega arith
+  length-zeros = omega (arith, length-replicate {A = ℕ} (o + 16 * c - o) 0)
 
   over : (vs : List ℕ) → length vs ≡ 16 * c → sets buf₀ o vs ≡ sets base o vs
   unfolding zeros
@@ -195,7 +171,8 @@ module _ (base : List ℕ) (o c : ℕ) (inside : o + 16 * c ≤ length base) (bu
       let T : List Bucket = replicate (2 * c) empty in
       let n : length (cat bucketBytes T) ≡ 16 * c =
       omega (arith, length-cat bucketBytes 8 length-bucketBytes T, length-replicate (2 * c) empty) in
-      let none : cat bucketBytes T ≡ zeros = zeros-buckets (2 * c) ∙ ap (λ (k : ℕ). replicate k 0) (n ∙ sym length-zeros ∙ length-replicate (o + 16 * c - o) 0) in
+      let none : cat bucketBytes T ≡ zeros =
+      zeros-buckets (2 * c) ∙ ap (λ (k : ℕ). replicate k 0) (n ∙ sym length-zeros ∙ length-replicate (o + 16 * c - o) 0) in
       record {
         few = omega arith;
         long = refl;
@@ -216,12 +193,12 @@ module _ (base : List ℕ) (o c : ℕ) (inside : o + 16 * c ≤ length base) (bu
   filling-start end pairs = record { table = fill-start pairs; apart = λ z full. tt }
 
   pub filling-end : {end : ℕ} → end ≤ o → {pairs : List ℕ} {i : ℕ} {buf : List ℕ} {met : Bool} → Filling buf₀ pairs end o c i buf met → c ≤ i
-      → PairsInserted base end o c pairs buf met
+      → (stop : Bool) → PairsInserted stop base end o c pairs buf met
   unfolding zeros
-  filling-end {end} behind {pairs} {i} f l =
+  filling-end {end} behind {pairs} {i} f l stop =
       let k : i ≡ c = omega (arith, f .table .few) in
       record {
-        leaves = fill-end (f .table) l;
+        leaves = λ _. fill-end (f .table) l;
         apart = λ z. subst (λ (g : List ℕ). Apart g (pairsIn pairs c)) (ap (take end) e ∙ take-sets zeros base end o behind)
             (subst (λ (j : ℕ). Apart (take end buf₀) (pairsIn pairs j)) k (f .apart z));
       }
@@ -242,8 +219,8 @@ module _ {buf₀ pairs : List ℕ} {o c i : ℕ} {buf : List ℕ} (f : Filled bu
       let s : suc i ≡ i + 1 = omega arith in
       ap₂ (λ (v : ℕ) (w : ℕ). P ++ (pairOf v w ∷ [])) eh ea ∙ sym (pairs-suc pairs i) ∙ ap (pairsIn pairs) s
 
-  words : (k : ℕ) → (getD T k empty .hash < 2 ^ 32) × (getD T k empty .at < 2 ^ 32)
-  words = filled-all (λ (q : Bucket). (q .hash < 2 ^ 32) × (q .at < 2 ^ 32)) n P (omega arith, omega arith) (f .small)
+  words : (k : ℕ) → Words (getD T k empty)
+  words = filled-all Words n P (omega arith, omega arith) (f .small)
 
   module _ {end : ℕ} {buf′ : List ℕ} {met : Bool} (done : PairInserted buf end o (2 * c) h at buf′ met) where
     pub fill-step : length buf′ ≡ length buf → Filled buf₀ pairs o c (i + 1) buf′
@@ -253,9 +230,9 @@ module _ {buf₀ pairs : List ℕ} {o c i : ℕ} {buf : List ℕ} (f : Filled bu
           few = omega arith;
           long = sized ∙ f .long;
           is =
-              area-step buf₀ buf T o n (length-filled n P) (omega arith) (omega arith) (λ k. words k .1) (f .is) h at buf′ (done .stored)
+              area-step buf₀ buf T o n (length-filled n P) (omega arith) (omega arith) words (f .is) h at buf′ (done .stored)
               ∙ ap (λ (r : List Bucket). sets buf₀ o (cat bucketBytes r)) (sym (filled-more n P b) ∙ ap (filled n) more);
-          small = rw (← more) (all-append (λ (q : Bucket). (q .hash < 2 ^ 32) × (q .at < 2 ^ 32)) P (b ∷ []) (f .small) ((done .hash-word, done .offset-word), tt));
+          small = rw (← more) (all-append Words P (b ∷ []) (f .small) ((done .hash-word, done .offset-word), tt));
         }
 
     -- a pair whose search met no entry of equal name
@@ -265,11 +242,12 @@ module _ {buf₀ pairs : List ℕ} {o c i : ℕ} {buf : List ℕ} (f : Filled bu
         let front : take end buf ≡ take end buf₀ = ap (take end) (f .is) ∙ take-sets (cat bucketBytes T) buf₀ end o behind in
         let fulls : All (λ (q : Bucket). q .at ≡ 0 → ⊥) P = all-before (λ (q : Bucket). q .at ≡ 0 → ⊥) P (b ∷ []) (rw (← more) at full) in
         let table : TableIs n (bucketAt buf o) P =
-        record { each = buckets-are buf₀ buf T o n (length-filled n P) (omega arith) (omega arith) (λ k. words k .1) (f .is) (λ k. words k .0) } in
+        record { each = buckets-are buf₀ buf T o n (length-filled n P) (omega arith) (omega arith) words (f .is) } in
         let other : All (λ (x : Bucket). x .hash ≡ h → sameNames (take end buf) at (x .at) ≡ false) P =
         none-equal table (omega arith) h (sameNames (take end buf) at) (omega (arith, length-pairs pairs i)) fulls (done .unmet z) in
         subst (λ (bs : List Bucket). Pairwise (OtherNames (take end buf₀)) bs) more
-        (pairwise-more (OtherNames (take end buf₀)) P b (apart fulls) (subst (λ (g : List ℕ). All (λ (x : Bucket). x .hash ≡ h → sameNames g at (x .at) ≡ false) P) front other))
+        (pairwise-more (OtherNames (take end buf₀)) P b (apart fulls)
+        (subst (λ (g : List ℕ). All (λ (x : Bucket). x .hash ≡ h → sameNames g at (x .at) ≡ false) P) front other))
 
 pub filling-step : {buf₀ pairs : List ℕ} {end o c i : ℕ} {buf buf′ : List ℕ} {met one : Bool} → Filling buf₀ pairs end o c i buf met → end ≤ o
     → o + 16 * c ≤ length buf₀ → i < c → (h at : ℕ) → h ≡ getD pairs (2 * i) 0 → at ≡ getD pairs (2 * i + 1) 0 → length buf′ ≡ length buf
@@ -282,30 +260,26 @@ filling-step {met = met} {one = one} f behind inside l h at eh ea sized done =
 
 -- ---- the table, as the code goes
 
-module _ (buf : List ℕ) (end o c : ℕ) where
+module _ {stop : Bool} (buf : List ℕ) (end o c : ℕ) where
   -- without entries
-  pub table-none : c ≡ 0 → TableDone buf end o c buf false
+  pub table-none : c ≡ 0 → TableDone stop buf end o c buf false
   unfolding tableFilled pairsStored filled insertAll cat
   table-none z =
-      subst (λ (n : ℕ). TableDone buf end o n buf false) (sym z) (record { leaves = go (leb (o + 16 * 0) (length buf)); apart = λ e full. tt })
-    where
-      go : (b : Bool) → buf ≡ cond b (sets buf o []) buf
-      go true = refl
-      go false = refl
+      rw z (record { leaves = λ _. cond-holds (λ (l : List ℕ). buf ≡ l) (leb (o + 16 * 0) (length buf)) refl refl; apart = λ e full. tt })
 
   -- not in the buffer
-  pub table-left : length buf < o + 16 * c → TableDone buf end o c buf true
+  pub table-left : length buf < o + 16 * c → TableDone stop buf end o c buf true
   unfolding tableFilled
-  table-left h = record { leaves = rw (lt-leb (o + 16 * c) (length buf) h); apart = not-met }
+  table-left h = record { leaves = λ _. rw (lt-leb (o + 16 * c) (length buf) h); apart = not-met }
 
   pub table-filled : o + 16 * c ≤ length buf → {pairs buf′ : List ℕ} {met : Bool} → PairsCopied pairs buf o c
-      → PairsInserted buf end o c pairs buf′ met → TableDone buf end o c buf′ met
+      → PairsInserted stop buf end o c pairs buf′ met → TableDone stop buf end o c buf′ met
   unfolding tableFilled
   table-filled h copied done =
       let l = pairs-copied copied c (omega arith) in
       record {
-        leaves =
-            done .leaves ∙ ap (tableStored buf o c) l
+        leaves = λ on.
+            done .leaves on ∙ ap (tableStored buf o c) l
             ∙ sym (ap (λ (t : Bool). cond t (tableStored buf o c (pairsStored buf o c)) buf) (le-leb (o + 16 * c) (length buf) h));
         apart = λ z. subst (Apart (take end buf)) l (done .apart z);
       }

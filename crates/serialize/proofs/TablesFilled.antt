@@ -3,7 +3,7 @@ use Prim.Native.Nat.{ℕ, zero, suc, _+_, _-_, _*_, _^_, _≤_, _<_}
 use native.Mathlib.Omega.{arith}
 use native.Mathlib.Decide.{decLt}
 use mathlib.Core.Path.{_≡_, refl, sym, ap, ap₂, _∙_}
-use mathlib.Core.Bool.{Bool, true, false, cond}
+use mathlib.Core.Bool.{Bool, true, cond}
 use mathlib.Core.List.{List, [], _++_, map, append-nil, append-assoc}
 use lib.ListN.{length, take, replicate, length-append, length-map}
 use lib.Seq.{sets, take-append-seam}
@@ -22,11 +22,13 @@ use Rattle.image.proofs.AllOfList.{All, all-filter, all-image}
 use Rattle.image.proofs.At.{At, at-same, at-equal, at-left, at-right}
 use Rattle.image.proofs.Parts.{placedIn, before-most}
 use Rattle.serialize.specs.steps.Partition.{tableOffsetsFrom, partitionedFrom, pairsStored, tableFilled, tablesFrom}
+use Rattle.serialize.proofs.Choices.{cond-holds}
 use Rattle.serialize.proofs.HeadRows.{Counts}
 use Rattle.serialize.proofs.PartialImage.{upToEntries, length-upToEntries}
 use Rattle.serialize.proofs.InsertStep.{offsets, store-in}
-use Rattle.serialize.proofs.TableAreas.{Words, areaWith, pairsOf, length-areas, area-at, area-set, length-areaWith, areas-none, pairs-read}
+use Rattle.serialize.proofs.TableAreas.{areaWith, pairsOf, length-areas, area-at, area-set, length-areaWith, areas-none, pairs-read}
 use Rattle.serialize.proofs.Partitioned.{Places, halfway, places-begin, half-walked}
+use Rattle.serialize.proofs.EntryAdded.{Words}
 
 -- the first t tables are filled, the others hold their pairs
 unfoldable pub filling : List Placed → List ℕ → ℕ → ℕ → List ℕ
@@ -63,11 +65,9 @@ module _ (mode : Mode) (es : List Entry) (X tail : List ℕ) (long : length X �
 
   sized : (t i : ℕ) → i < 256 → length (filling (placedIn es) X t i) ≡ 16 * count i (placedIn es)
   unfolding filling
-  sized t i h = go (ltb i t)
-    where
-      go : (b : Bool) → length (cond b (tableBytes (placedIn es) i) (areaWith (placedIn es) X (placedIn es) i)) ≡ 16 * count i (placedIn es)
-      go true = length-tableBytes (placedIn es) i
-      go false = length-areaWith (placedIn es) X long (placedIn es) i h (omega arith)
+  sized t i h =
+      cond-holds (λ (l : List ℕ). length l ≡ 16 * count i (placedIn es)) (ltb i t) (length-tableBytes (placedIn es) i)
+      (length-areaWith (placedIn es) X long (placedIn es) i h (omega arith))
 
   pub tables-long : (t : ℕ) → length (cat (filling (placedIn es) X t) (range 0 256)) ≡ 16 * length es
   tables-long t =
@@ -108,13 +108,10 @@ module _ (mode : Mode) (es : List Entry) (X tail : List ℕ) (long : length X �
         all-image Words bucketOf (λ q h. (hashOf-below (q .entry .name), omega arith)) (ofTable t (placedIn es))
         (all-filter (λ (q : Placed). q .at ≤ entriesEnd es) (inTable t) (placedIn es) (offsets headSize (entriesEnd es) es (omega arith)))
 
-    pairs-read-there : pairsStored B o (count t ps) ≡ bs
-    unfolding bs
-    pairs-read-there = pairs-read o bs pairs-there words (count t ps) (sym (length-map (ofTable t ps) bucketOf))
-
-    pub pairs-are : pairsStored (filledTo mode es X t tail) (entriesEnd es + 16 * entriesBefore t (placedIn es)) (count t (placedIn es)) ≡ map bucketOf (ofTable t (placedIn es))
+    pub pairs-are : pairsStored (filledTo mode es X t tail) (entriesEnd es + 16 * entriesBefore t (placedIn es)) (count t (placedIn es))
+        ≡ map bucketOf (ofTable t (placedIn es))
     unfolding B o ps bs
-    pairs-are = pairs-read-there
+    pairs-are = pairs-read o bs pairs-there words (count t ps) (sym (length-map (ofTable t ps) bucketOf))
 
     later : (k : ℕ) → (k ≡ t → ⊥) → filling ps X t k ≡ filling ps X (suc t) k
     unfolding filling
@@ -140,7 +137,8 @@ module _ (mode : Mode) (es : List Entry) (X tail : List ℕ) (long : length X �
         done =
             ap (λ (b : Bool). cond b (tableBytes (placedIn es) t) (areaWith (placedIn es) X (placedIn es) t)) (lt-ltb t (suc t) (omega arith))
 
-    pub table-step : tableFilled (filledTo mode es X t tail) (entriesEnd es + 16 * entriesBefore t (placedIn es)) (count t (placedIn es)) ≡ filledTo mode es X (suc t) tail
+    pub table-step : tableFilled (filledTo mode es X t tail) (entriesEnd es + 16 * entriesBefore t (placedIn es)) (count t (placedIn es))
+        ≡ filledTo mode es X (suc t) tail
     unfolding tableFilled B o ps bs filledTo tableBytes table
     table-step =
         let U = upToEntries mode es in
@@ -156,7 +154,7 @@ module _ (mode : Mode) (es : List Entry) (X tail : List ℕ) (long : length X �
         let most = before-most (placedIn es) t below in
         let yes : leb (o + 16 * c) (length B) ≡ true = le-leb (o + 16 * c) (length B) (omega (arith, length-placed headSize es)) in
         ap (λ (b : Bool). cond b (sets B o (cat bucketBytes (filled (2 * c) (pairsStored B o c)))) B) yes
-        ∙ ap (λ (l : List Bucket). sets B o (cat bucketBytes (filled (2 * c) l))) pairs-read-there
+        ∙ ap (λ (l : List Bucket). sets B o (cat bucketBytes (filled (2 * c) l))) pairs-are
         ∙ ap (λ (l : List ℕ). sets l o v) (append-assoc (U ++ R) L tail)
         ∙ store-in U R (L ++ tail) v o j (omega (arith, length-upToEntries mode es))
         (omega (arith, tables-long t, length-tableBytes (placedIn es) t, length-placed headSize es))
@@ -166,7 +164,8 @@ module _ (mode : Mode) (es : List Entry) (X tail : List ℕ) (long : length X �
         ∙ sym (append-assoc (U ++ cat (filling (placedIn es) X (suc t)) (range 0 256)) L tail)
 
   pub tables-walked : imageSize mode es ≤ 4294967295 → (counts : List ℕ) → Counts counts (placedIn es)
-      → (m t : ℕ) → t + m ≤ 256 → tablesFrom counts (entriesEnd es + 16 * entriesBefore t (placedIn es)) t m (filledTo mode es X t tail) ≡ filledTo mode es X (t + m) tail
+      → (m t : ℕ) → t + m ≤ 256
+      → tablesFrom counts (entriesEnd es + 16 * entriesBefore t (placedIn es)) t m (filledTo mode es X t tail) ≡ filledTo mode es X (t + m) tail
   unfolding tablesFrom
   tables-walked fits counts tallies zero t h = let z : t ≡ t + 0 = omega arith in ap (λ (k : ℕ). filledTo mode es X k tail) z
   tables-walked fits counts tallies (suc m) t h =
@@ -201,7 +200,8 @@ module _ (mode : Mode) (es : List Entry) (X tail counts : List ℕ) (long : leng
 
   -- the entries that stand in the buffer partitioned
   pub parted-is : All (λ (x : Entry). x .id < 2 ^ 32) es
-      → partitionedFrom mode (backOffset mode es) (entriesEnd es) (length es) headSize begins (upToEntries mode es ++ X ++ backWords [] (backSizeOf mode es) ++ tail)
+      → partitionedFrom mode (backOffset mode es) (entriesEnd es) (length es) headSize begins
+      (upToEntries mode es ++ X ++ backWords [] (backSizeOf mode es) ++ tail)
       ≡ filledTo mode es X 0 tail
   unfolding entriesSize
   parted-is ids =

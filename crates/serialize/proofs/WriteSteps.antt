@@ -2,7 +2,7 @@
 use Prim.Native.Nat.{ℕ, _+_, _-_, _*_, _≤_, _<_}
 use native.Mathlib.Omega.{arith}
 use mathlib.Core.Path.{_≡_, sym, ap, ap₂, _∙_}
-use mathlib.Core.Bool.{Bool, true, false, cond}
+use mathlib.Core.Bool.{Bool, false}
 use mathlib.Core.List.{List}
 use lib.ListN.{replicate}
 use lib.Seq.{sets}
@@ -13,6 +13,7 @@ use Rattle.image.specs.declared.Mode.{Mode}
 use Rattle.image.specs.declared.Mode.the-variants.{Twoway, Oneway}
 use Rattle.serialize.specs.Record.{finishedOf, noneAbove}
 use Rattle.serialize.specs.steps.Written.{rowsFrom, backOffsetOf, headed, zeroed, begunImage, byTables}
+use Rattle.serialize.proofs.Choices.{cond-holds}
 
 pub backIn-le : (mode : Mode) (n : ℕ) → backIn mode n ≤ n
 backIn-le Twoway n = omega arith
@@ -30,11 +31,7 @@ module _ (mode : Mode) (end entries back : ℕ) where
 
   pub backOffset-le : backOffsetOf mode end entries back ≤ end + 16 * entries
   unfolding backOffsetOf
-  backOffset-le = go (eqb (backIn mode back) 0)
-    where
-      go : (b : Bool) → cond b 0 (end + 16 * entries) ≤ end + 16 * entries
-      go true = omega arith
-      go false = omega arith
+  backOffset-le = cond-holds (λ (o : ℕ). o ≤ end + 16 * entries) (eqb (backIn mode back) 0) (omega arith) (omega arith)
 
   -- head and rows
   pub headed-parts : (counts buf b1 b2 : List ℕ) (n f k l : ℕ)

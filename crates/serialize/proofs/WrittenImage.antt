@@ -2,7 +2,7 @@
 use Prim.Native.Nat.{ℕ, _+_, _-_, _*_, _^_, _≤_, _<_}
 use native.Mathlib.Omega.{arith}
 use mathlib.Core.Path.{_≡_, refl, sym, ap, subst, _∙_}
-use mathlib.Core.Bool.{Bool, true, false, cond}
+use mathlib.Core.Bool.{Bool, true, false, cond, _&&_}
 use mathlib.Core.Logic.{_⊎_, ⊎-elim}
 use mathlib.Core.List.{List, [], _∷_, _++_, append-nil, append-assoc}
 use lib.ListN.{length, take, drop, replicate, length-append, length-take, length-drop}
@@ -18,13 +18,13 @@ use Rattle.image.proofs.Parts.{placedIn}
 use Rattle.image.proofs.AllOfList.{All}
 use Rattle.image.specs.Stored.{whole, between}
 use Rattle.image.proofs.EntryArea.{AllBytes, bytes-drop, bytes-take, length-entriesIn, whole-bytes, ids-words}
-use Rattle.serialize.specs.Serialize.{storedEntries, serialized}
+use Rattle.serialize.specs.Serialize.{storedEntries}
 use Rattle.serialize.specs.Record.{finishedOf}
 use Rattle.serialize.specs.steps.Preconditions.{ClosePrecondition}
 use Rattle.serialize.specs.steps.Insertion.{entryInserted, insertedFrom}
 use Rattle.serialize.specs.steps.Partition.{tableOffsetsFrom, partitionedFrom, tablesFrom}
 use Rattle.serialize.specs.steps.Written.{backOffsetOf, zeroed, begunImage}
-use Rattle.serialize.specs.steps.Meeting.{Distinct, UnmetFrom, TablesApart, EntriesInserted, TablesDone, SinglyDone, AllDone, ImageWritten}
+use Rattle.serialize.specs.steps.Meeting.{Distinct, UnmetFrom, TablesApart, TablesDone, SinglyDone, AllDone, ImageWritten}
 use Rattle.serialize.proofs.HeadRows.{Counts, counts-agree}
 use Rattle.serialize.proofs.PartialImage.{upToEntries, partial, partial-all}
 use Rattle.serialize.proofs.Cleared.{Numbers, size-is, back-offset-is, begun-is, cleared-partial}
@@ -33,8 +33,8 @@ use Rattle.serialize.proofs.TablesFilled.{filling, filledTo, tables-lon
 use Rattle.serialize.proofs.Distinct.{singly-distinct, by-tables-distinct}
 
 -- the image of the entries, and if none of equal name met, no two have equal names
-pub record Imaged (mode : Mode) (es : List Entry) (tail after : List ℕ) (met : Bool) : Type 0 where
-  pub is : after ≡ image mode es ++ tail
+pub record Imaged (stop : Bool) (mode : Mode) (es : List Entry) (tail after : List ℕ) (met : Bool) : Type 0 where
+  pub is : (stop && met) ≡ false → after ≡ image mode es ++ tail
   pub distinct : met ≡ false → Distinct es
 
 -- ---- the walk, from any entry on
@@ -61,15 +61,15 @@ module _ (mode : Mode) (es : List Entry) (tail : List ℕ) (small : imageSize mo
       ∙ walked rest (qs ++ e ∷ []) (split ∙ sym (append-assoc qs (e ∷ []) rest))
 
   -- one by one, from cleared tables and back array
-  pub singly-imaged : (R L : List ℕ) → length (R ++ L) ≡ 16 * length es + 4 * backSizeOf mode es → {buf after : List ℕ} {met : Bool}
+  pub singly-imaged : (R L : List ℕ) → length (R ++ L) ≡ 16 * length es + 4 * backSizeOf mode es → {stop : Bool} {buf after : List ℕ} {met : Bool}
       → buf ≡ upToEntries mode es ++ R ++ L ++ tail
-      → SinglyDone mode (backOffset mode es) (entriesEnd es) (length es) (imageSize mode es) buf after met → Imaged mode es tail after met
+      → SinglyDone stop mode (backOffset mode es) (entriesEnd es) (length es) (imageSize mode es) buf after met → Imaged stop mode es tail after met
   unfolding entriesSize
   singly-imaged R L long e done =
       let cleared = ap (λ (b : List ℕ). zeroed b (entriesEnd es) (imageSize mode es)) e ∙ cleared-partial mode es R L tail long in
       record {
-        is =
-            done .leaves
+        is = λ on.
+            done .leaves on
             ∙ ap (insertedFrom mode (backOffset mode es) (entriesEnd es) (length es) headSize) cleared
             ∙ walked es [] refl
             ∙ ap (λ (l : List ℕ). l ++ tail) (partial-all mode es);
@@ -78,40 +78,35 @@ module _ (mode : Mode) (es : List Entry) (tail : List ℕ) (small : imageSize mo
       }
 
   -- the tables from their pairs, or one by one
-  pub all-imaged : (X counts : List ℕ) → length X ≡ 16 * length (placedIn es) → Counts counts (placedIn es) → {buf after : List ℕ} {met : Bool}
+  pub all-imaged : (X counts : List ℕ) → length X ≡ 16 * length (placedIn es) → Counts counts (placedIn es) → {stop : Bool} {buf after : List ℕ} {met : Bool}
       → buf ≡ filledTo mode es X 0 tail
-      → AllDone mode (backOffset mode es) (entriesEnd es) (length es) (imageSize mode es) counts buf after met → Imaged mode es tail after met
+      → AllDone stop mode (backOffset mode es) (entriesEnd es) (length es) (imageSize mode es) counts buf after met → Imaged stop mode es tail after met
   unfolding filledTo
-  all-imaged X counts long tallies {buf} {after} {met} e done = ⊎-elim by-tables singly done
+  all-imaged X counts long tallies {stop} {buf} {after} {met} e done = ⊎-elim by-tables singly done
     where
-      by-tables : TablesDone counts (entriesEnd es) buf after met → Imaged mode es tail after met
+      by-tables : TablesDone stop counts (entriesEnd es) buf after met → Imaged stop mode es tail after met
       by-tables d =
           record {
-            is = d .leaves ∙ ap (tablesFrom counts (entriesEnd es) 0 256) e ∙ tables-image mode es X tail counts long small tallies;
+            is = λ on. d .leaves on ∙ ap (tablesFrom counts (entriesEnd es) 0 256) e ∙ tables-image mode es X tail counts long small tallies;
             distinct = λ z. by-tables-distinct mode es X tail long small counts tallies
                 (subst (λ (b : List ℕ). TablesApart (take (entriesEnd es) b) counts (entriesEnd es) 0 256 b) e (d .apart z));
           }
 
-      singly : SinglyDone mode (backOffset mode es) (entriesEnd es) (length es) (imageSize mode es) buf after met → Imaged mode es tail after met
+      singly : SinglyDone stop mode (backOffset mode es) (entriesEnd es) (length es) (imageSize mode es) buf after met → Imaged stop mode es tail after met
       singly d =
           let R = cat (filling (placedIn es) X 0) (range 0 256) in
           let L = backWords (placedIn es) (backSizeOf mode es) in
           singly-imaged R L (omega (arith, length-append R L, tables-long mode es X tail long 0, length-backWords (placedIn es) (backSizeOf mode es))) e d
 
 -- what was done, told by other numbers that are the same
-pub singly-told : {mode : Mode} {l l′ end end′ entries entries′ n n′ : ℕ} (buf : List ℕ) {after : List ℕ} {met : Bool} → l ≡ l′ → end ≡ end′ → entries ≡ entries′ → n ≡ n′
-    → SinglyDone mode l end entries n buf after met → SinglyDone mode l′ end′ entries′ n′ buf after met
-singly-told {mode} {l} {l′} {end} {end′} {entries} {entries′} {n} {n′} buf {after} {met} el ee en es done =
-    subst (λ (k : ℕ). SinglyDone mode l′ end′ entries′ k buf after met) es
-    (subst (λ (k : ℕ). SinglyDone mode l′ end′ k n buf after met) en
-    (subst (λ (k : ℕ). SinglyDone mode l′ k entries n buf after met) ee (subst (λ (k : ℕ). SinglyDone mode k end entries n buf after met) el done)))
+module _ {stop : Bool} {mode : Mode} {l l′ end end′ entries entries′ n n′ : ℕ} (el : l ≡ l′) (ee : end ≡ end′) (en : entries ≡ entries′) (es : n ≡ n′) where
+  pub singly-told : (buf : List ℕ) {after : List ℕ} {met : Bool} → SinglyDone stop mode l end entries n buf after met
+      → SinglyDone stop mode l′ end′ entries′ n′ buf after met
+  singly-told buf done = rw (el, ee, en, es) at done
 
-pub all-told : {mode : Mode} {l l′ end end′ entries entries′ n n′ : ℕ} (counts buf : List ℕ) {after : List ℕ} {met : Bool} → l ≡ l′ → end ≡ end′ → entries ≡ entries′ → n ≡ n′
-    → AllDone mode l end entries n counts buf after met → AllDone mode l′ end′ entries′ n′ counts buf after met
-all-told {mode} {l} {l′} {end} {end′} {entries} {entries′} {n} {n′} counts buf {after} {met} el ee en es done =
-    subst (λ (k : ℕ). AllDone mode l′ end′ entries′ k counts buf after met) es
-    (subst (λ (k : ℕ). AllDone mode l′ end′ k n counts buf after met) en
-    (subst (λ (k : ℕ). AllDone mode l′ k entries n counts buf after met) ee (subst (λ (k : ℕ). AllDone mode k end entries n counts buf after met) el done)))
+  pub all-told : {counts buf after : List ℕ} {met : Bool} → AllDone stop mode l end entries n counts buf after met
+      → AllDone stop mode l′ end′ entries′ n′ counts buf after met
+  all-told done = rw (el, ee, en, es) at done
 
 -- ---- what is asked for before the image is written
 
@@ -170,11 +165,8 @@ module _ (mode : Mode) (end entries back : ℕ) (counts buf : List ℕ) (bytes :
 
   area-long : length X ≡ 16 * length (placedIn es)
   area-long =
-      length-between buf end (end + 16 * entries) (omega arith) (omega (arith, asked .fits-buffer))
-      ∙ same end entries (numbers .number ∙ sym (length-placed headSize es))
-    where
-      same : (a n : ℕ) {m : ℕ} → n ≡ m → a + 16 * n - a ≡ 16 * m
-      same a n e = omega arith
+      let sum = length-between buf end (end + 16 * entries) (omega arith) (omega (arith, asked .fits-buffer)) in
+      omega (arith, sum, numbers .number, length-placed headSize es)
 
   begun : begunImage mode end entries back counts buf ≡ upToEntries mode es ++ X ++ backWords [] (backSizeOf mode es) ++ tail
   unfolding upToEntries es
@@ -184,25 +176,25 @@ module _ (mode : Mode) (end entries back : ℕ) (counts buf : List ℕ) (bytes :
       begun-is mode end entries back counts buf es numbers
       ∙ ap (λ (l : List ℕ). H ++ R ++ l ++ X ++ backWords [] (backSizeOf mode es) ++ tail) (area-kept end entries buf bytes (asked .whole-entries))
 
-  written : {after : List ℕ} {met : Bool} → Imaged mode es tail after met → ImageWritten mode end entries back buf after met
+  written : {after : List ℕ} {met : Bool} → Imaged false mode es tail after met → ImageWritten mode end entries back buf after met
   unfolding es
-  written i = record { leaves = i .is; distinct = i .distinct }
+  written i = record { leaves = i .is refl; distinct = i .distinct }
 
   -- one by one
   pub written-singly : {b0 after : List ℕ} {n l : ℕ} {met : Bool} → n ≡ finishedOf mode end entries back → l ≡ backOffsetOf mode end entries back
-      → b0 ≡ begunImage mode end entries back counts buf → SinglyDone mode l end entries n b0 after met → ImageWritten mode end entries back buf after met
+      → b0 ≡ begunImage mode end entries back counts buf → SinglyDone false mode l end entries n b0 after met → ImageWritten mode end entries back buf after met
   written-singly {b0} en el eb done =
       let L = backWords [] (backSizeOf mode es) in
+      let long = length-backWords [] (backSizeOf mode es) in
       written
-      (singly-imaged mode es tail image-small ids X L (omega (arith, length-append X L, area-long, length-placed headSize es, length-backWords [] (backSizeOf mode es)))
-      (eb ∙ begun)
-      (singly-told b0 (el ∙ back-offset-is mode end entries back counts buf es numbers) (numbers .ends) (numbers .number)
-      (en ∙ size-is mode end entries back counts buf es numbers) done))
+      (singly-imaged mode es tail image-small ids X L (omega (arith, length-append X L, area-long, length-placed headSize es, long)) (eb ∙ begun)
+      (singly-told (el ∙ back-offset-is mode end entries back counts buf es numbers) (numbers .ends) (numbers .number)
+      (en ∙ size-is mode end entries back counts buf es numbers) b0 done))
 
   -- by tables
   pub written-by-tables : {b0 b1 places after : List ℕ} {n l : ℕ} {met : Bool} → n ≡ finishedOf mode end entries back → l ≡ backOffsetOf mode end entries back
       → b0 ≡ begunImage mode end entries back counts buf → places ≡ sets (replicate 256 0) 0 (tableOffsetsFrom counts end 0 256)
-      → b1 ≡ partitionedFrom mode l end entries 2072 places b0 → AllDone mode l end entries n counts b1 after met
+      → b1 ≡ partitionedFrom mode l end entries 2072 places b0 → AllDone false mode l end entries n counts b1 after met
       → ImageWritten mode end entries back buf after met
   written-by-tables {b0} {b1} {places} {after} {n} {l} en el eb ep e1 done =
       let offset = el ∙ back-offset-is mode end entries back counts buf es numbers in
@@ -218,4 +210,4 @@ module _ (mode : Mode) (end entries back : ℕ) (counts buf : List ℕ) (bytes :
       ∙ parted-is mode es X tail counts area-long image-small (numbers .tallies) ids in
       written
       (all-imaged mode es tail image-small ids X counts area-long (numbers .tallies) parted
-      (all-told counts b1 offset (numbers .ends) (numbers .number) (en ∙ size-is mode end entries back counts buf es numbers) done))
+      (all-told offset (numbers .ends) (numbers .number) (en ∙ size-is mode end entries back counts buf es numbers) done))

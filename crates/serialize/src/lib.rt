@@ -89,7 +89,7 @@ pub fn write_image(
     let back_offset = size::back_offset(mode, end, entries, back) as usize;
     let last = end as usize;
     if !tables::by_tables(counts, entries) {
-        return tables::insert_singly(mode, back_offset, &mut *buf, last, entries, size);
+        return tables::insert_singly(mode, back_offset, &mut *buf, last, entries, size, false);
     }
     partition::partition_entries(mode, back_offset, &mut *buf, &mut places, last, entries);
     let mut none: [u32; 1] = [0; 1];
@@ -102,5 +102,6 @@ pub fn write_image(
         entries,
         size,
         &mut none,
+        false,
     )
 }

@@ -50,26 +50,30 @@ fn copy_pairs(copy: &mut [u32], buf: &[u8], o: usize, c: usize)
 }
 
 // The table of c entries at o, cleared and filled with c pairs in their order. Gives whether two of equal name were
-// met.
-fn insert_pairs(buf: &mut [u8], end: usize, o: usize, c: usize, pairs: &[u32]) -> bool
+// met; with `stop` it ends at the first pair that meets one.
+fn insert_pairs(buf: &mut [u8], end: usize, o: usize, c: usize, pairs: &[u32], stop: bool) -> bool
     requires { ⌜ InsertPairsPre end o c (now pairs) (now buf) ⌝ }
-    ensures { λ r. ⌜ PairsInserted (now (buf .entry)) end o c (now (pairs .entry)) (now (buf .exit)) r ⌝ }
+    ensures { λ r. ⌜ PairsInserted stop (now (buf .entry)) end o c (now (pairs .entry)) (now (buf .exit)) r ⌝ }
 {
     clear_bytes(&mut *buf, o, o + 16 * c);
     let mut met = false;
     let mut i = 0;
     while i < c {
         let one = insert_pair(&mut *buf, end, o, 2 * c, pairs[2 * i], pairs[2 * i + 1]);
+        if stop & one {
+            return true;
+        }
         met = met | one;
         i += 1;
     }
     met
 }
 
-// The table of c entries at o, filled from the pairs that stand there. Gives whether two of equal name were met.
-fn fill_table(buf: &mut [u8], end: usize, o: usize, c: usize, copy: &mut [u32]) -> bool
+// The table of c entries at o, filled from the pairs that stand there. Gives whether two of equal name were met; with
+// `stop` it ends at the first pair that meets one.
+fn fill_table(buf: &mut [u8], end: usize, o: usize, c: usize, copy: &mut [u32], stop: bool) -> bool
     requires { ⌜ FillTablePre end o c (now copy) ⌝ }
-    ensures { λ r. ⌜ TableDone (now (buf .entry)) end o c (now (buf .exit)) r ⌝ }
+    ensures { λ r. ⌜ TableDone stop (now (buf .entry)) end o c (now (buf .exit)) r ⌝ }
 {
     if c == 0 {
         return false;
@@ -78,20 +82,30 @@ fn fill_table(buf: &mut [u8], end: usize, o: usize, c: usize, copy: &mut [u32]) 
         return true;
     }
     copy_pairs(&mut *copy, &*buf, o, c);
-    insert_pairs(&mut *buf, end, o, c, &*copy)
+    insert_pairs(&mut *buf, end, o, c, &*copy, stop)
 }
 
-// All tables, one after the other, each over a copy of its pairs. Gives whether two entries of equal name were met.
-fn fill_tables(buf: &mut [u8], counts: &[u32; 256], end: usize, copy: &mut [u32]) -> bool
+// All tables, one after the other, each over a copy of its pairs. Gives whether two entries of equal name were met;
+// with `stop` it ends at the first pair that meets one.
+fn fill_tables(
+    buf: &mut [u8],
+    counts: &[u32; 256],
+    end: usize,
+    copy: &mut [u32],
+    stop: bool,
+) -> bool
     requires { ⌜ FillTablesPre (now counts) end (now copy) ⌝ }
-    ensures { λ r. ⌜ TablesDone (now (counts .entry)) end (now (buf .entry)) (now (buf .exit)) r ⌝ }
+    ensures { λ r. ⌜ TablesDone stop (now (counts .entry)) end (now (buf .entry)) (now (buf .exit)) r ⌝ }
 {
     let mut met = false;
     let mut o = end;
     let mut t = 0;
     while t < 256 {
         let c = as_u64(counts[t]) as usize;
-        let one = fill_table(&mut *buf, end, o, c, &mut *copy);
+        let one = fill_table(&mut *buf, end, o, c, &mut *copy, stop);
+        if stop & one {
+            return true;
+        }
         met = met | one;
         o += 16 * c;
         t += 1;
@@ -111,7 +125,7 @@ fn has_room(counts: &[u32; 256], scratch: &[u32]) -> bool
 }
 
 // The entries from 2,072 on, inserted one by one into an image of `size` bytes whose tables and back array are cleared.
-// Gives whether two of equal name were met.
+// Gives whether two of equal name were met; with `stop` it ends at the first that meets one.
 pub(super) fn insert_singly(
     mode: Mode,
     back_offset: usize,
@@ -119,12 +133,13 @@ pub(super) fn insert_singly(
     end: usize,
     entries: u32,
     size: usize,
+    stop: bool,
 ) -> bool
     requires { ⌜ FillAllPre «back_offset» end size (now buf) ⌝ }
-    ensures { λ r. ⌜ SinglyDone mode «back_offset» end entries size (now (buf .entry)) (now (buf .exit)) r ⌝ }
+    ensures { λ r. ⌜ SinglyDone stop mode «back_offset» end entries size (now (buf .entry)) (now (buf .exit)) r ⌝ }
 {
     clear_bytes(&mut *buf, end, size);
-    insert_entries(mode, back_offset, &mut *buf, end, entries)
+    insert_entries(mode, back_offset, &mut *buf, end, entries, stop)
 }
 
 // Does close fill tables from pairs? Not of few entries, where to insert them one by one takes a fifth less time at
@@ -140,7 +155,8 @@ pub(super) fn by_tables(counts: &[u32; 256], entries: u32) -> bool
 
 // All tables of an image of `size` bytes filled from their pairs, over a copy on the stack or in the lent memory. Where
 // neither has room for the pairs of a table, the entries are inserted one by one. Gives whether two entries of equal
-// name were met. An internal function for the crates above.
+// name were met; with `stop` it ends at the first that meets one, and what the tables then hold is unspecified. An
+// internal function for the crates above.
 pub fn fill_all(
     mode: Mode,
     back_offset: usize,
@@ -150,22 +166,23 @@ pub fn fill_all(
     entries: u32,
     size: usize,
     scratch: &mut [u32],
+    stop: bool,
 ) -> bool
     requires { ⌜ FillAllPre «back_offset» end size (now buf) ⌝ }
     ensures { λ r. ⌜
-        AllDone mode «back_offset» end entries size (now (counts .entry)) (now (buf .entry)) (now (buf .exit)) r
+        AllDone stop mode «back_offset» end entries size (now (counts .entry)) (now (buf .entry)) (now (buf .exit)) r
         ⌝ }
 {
     if none_above(counts, FEW_PAIRS_32) {
         let mut copy: [u32; FEW_WORDS] = [0; FEW_WORDS];
-        return fill_tables(&mut *buf, counts, end, &mut copy);
+        return fill_tables(&mut *buf, counts, end, &mut copy, stop);
     }
     if none_above(counts, MANY_PAIRS_32) {
         let mut copy: [u32; MANY_WORDS] = [0; MANY_WORDS];
-        return fill_tables(&mut *buf, counts, end, &mut copy);
+        return fill_tables(&mut *buf, counts, end, &mut copy, stop);
     }
     if has_room(counts, &*scratch) {
-        return fill_tables(&mut *buf, counts, end, &mut *scratch);
+        return fill_tables(&mut *buf, counts, end, &mut *scratch, stop);
     }
-    insert_singly(mode, back_offset, &mut *buf, end, entries, size)
+    insert_singly(mode, back_offset, &mut *buf, end, entries, size, stop)
 }

@@ -1,4 +1,4 @@
--- What close answers in each case, as its checks go. Assumes nothing.
+-- What close answers in each case, in the order of its checks. Assumes nothing.
 use Prim.Native.Nat.{ℕ}
 use native.Mathlib.Omega.{arith}
 use mathlib.Core.Path.{_≡_, refl, sym, ap, _∙_}
@@ -45,14 +45,14 @@ pub record Accepted (s : State) : Type 0 where
 
 pub accepted : (s : State) → closeRefusal s ≡ 0 → Accepted s
 unfolding closeRefusal
-accepted s e = go (fits s) (consistent s) (tooLarge (s .writer .length) (finishedSize (s .writer))) refl refl refl e
+accepted s e = all-passed (fits s) (consistent s) (tooLarge (s .writer .length) (finishedSize (s .writer))) refl refl refl e
   where
-    go : (f c t : Bool) → fits s ≡ f → consistent s ≡ c → tooLarge (s .writer .length) (finishedSize (s .writer)) ≡ t
+    all-passed : (f c t : Bool) → fits s ≡ f → consistent s ≡ c → tooLarge (s .writer .length) (finishedSize (s .writer)) ≡ t
         → _≡_ {A = ℕ} (cond (not f) 2 (cond (c && not t) 0 4)) 0 → Accepted s
-    go true true false p q r z = record { fit = p; fine = r; all = q }
-    go true true true p q r z = absurd (omega arith)
-    go true false t p q r z = absurd (omega arith)
-    go false c t p q r z = absurd (omega arith)
+    all-passed true true false p q r z = record { fit = p; fine = r; all = q }
+    all-passed true true true p q r z = absurd (omega arith)
+    all-passed true false t p q r z = absurd (omega arith)
+    all-passed false c t p q r z = absurd (omega arith)
 
 rejoined : (s : State) → stateWith (s .writer) (s .counts) (closed s .buffer) ≡ closed s
 unfolding closed

@@ -1,4 +1,4 @@
--- The walk over the earlier entries: what it gives in each case, as its checks go, and what put makes of it. Assumes
+-- The walk over the earlier entries: what it gives in each case, in the order of its checks, and what put makes of it. Assumes
 -- nothing.
 use Prim.Native.Nat.{ℕ}
 use mathlib.Core.Path.{_≡_, refl, sym, ap, _∙_}
@@ -27,12 +27,12 @@ module _ (s : State) (name : List ℕ) where
   -- close asks no more than whether it is not 4
   pub not-four : (r : ℕ) → r ≡ walkRefusal s name → not (eqb r 4) ≡ consistent s
   unfolding walkRefusal
-  not-four r e = ap (λ (k : ℕ). not (eqb k 4)) e ∙ go (consistent s) (containsName name (recorded s))
+  not-four r e = ap (λ (k : ℕ). not (eqb k 4)) e ∙ is-consistent (consistent s) (containsName name (recorded s))
     where
-      go : (a b : Bool) → not (eqb (cond (not a) 4 (cond b 16 0)) 4) ≡ a
-      go true true = refl
-      go true false = refl
-      go false b = refl
+      is-consistent : (a b : Bool) → not (eqb (cond (not a) 4 (cond b 16 0)) 4) ≡ a
+      is-consistent true true = refl
+      is-consistent true false = refl
+      is-consistent false b = refl
 
 -- w and these bytes: b says whether the entries are whole, tally has their counts, k is their back size, m says
 -- whether one has the name
@@ -46,7 +46,8 @@ module _ (w : CQDBWriter) (counts buf name : List ℕ) (b : Bool) (is-whole : b 
   pub not-whole : b ≡ false → 4 ≡ walkRefusal (stateWith w counts buf) name
   not-whole no-more = fails s name (and3-first-fails (whole (w .entries) (entryArea s)) (countsAgree counts (recorded s)) backs (sym is-whole ∙ no-more))
 
-  module _ (yes-whole : b ≡ true) (tally : List ℕ) (tells : tally ≡ tallied (replicate 256 0) (recorded s)) (d : Bool) (is-same : d ≡ sameCounts counts tally) where
+  module _ (yes-whole : b ≡ true) (tally : List ℕ) (tells : tally ≡ tallied (replicate 256 0) (recorded s)) (d : Bool)
+      (is-same : d ≡ sameCounts counts tally) where
     agree : d ≡ countsAgree counts (recorded s)
     agree = is-same ∙ same-agree counts (recorded s) tally tells
 
@@ -83,17 +84,17 @@ pub in-order : (s : State) (name : List ℕ) (rest : ℕ)
     → cond (not (consistent s) && refusesRepeats (s .writer .repeats)) 4 (cond (containsName name (recorded s) && refusesRepeats (s .writer .repeats)) 16 rest)
     ≡ cond (eqb (earlierRefusal s name) 0) rest (earlierRefusal s name)
 unfolding earlierRefusal
-in-order s name rest = go (consistent s) (containsName name (recorded s)) (refusesRepeats (s .writer .repeats))
+in-order s name rest = same-number (consistent s) (containsName name (recorded s)) (refusesRepeats (s .writer .repeats))
   where
     number : Bool → Bool → Bool → ℕ
     number a h r = cond r (cond (not a) 4 (cond h 16 0)) 0
 
-    go : (a h r : Bool) → cond (not a && r) 4 (cond (h && r) 16 rest) ≡ cond (eqb (number a h r) 0) rest (number a h r)
-    go true true true = refl
-    go true true false = refl
-    go true false true = refl
-    go true false false = refl
-    go false true true = refl
-    go false true false = refl
-    go false false true = refl
-    go false false false = refl
+    same-number : (a h r : Bool) → cond (not a && r) 4 (cond (h && r) 16 rest) ≡ cond (eqb (number a h r) 0) rest (number a h r)
+    same-number true true true = refl
+    same-number true true false = refl
+    same-number true false true = refl
+    same-number true false false = refl
+    same-number false true true = refl
+    same-number false true false = refl
+    same-number false false true = refl
+    same-number false false false = refl

@@ -3,7 +3,6 @@
 use Prim.Native.Nat.{ℕ, suc, _+_, _-_, _≤_, _<_}
 use native.Mathlib.Omega.{arith}
 use mathlib.Core.Path.{_≡_, refl, sym, ap, _∙_}
-use mathlib.Core.Bool.{Bool, true, false, cond}
 use mathlib.Core.List.{List, [], _∷_, _++_}
 use lib.ListN.{length, getD, take, drop, set, length-drop}
 use lib.Seq.{sets, drop-set-lt, take-append-le, drop-append-le, drop-at}
@@ -22,6 +21,7 @@ use Rattle.image.proofs.Between.{take-sets}
 use Rattle.serialize.proofs.WrittenImage.{area-kept, stored-number, stored-end}
 use Rattle.writer.proofs.Closes.{accepted}
 use Rattle.writer.proofs.Accepted.{stands}
+use Rattle.serialize.proofs.Choices.{cond-holds}
 
 -- ---- runs of stores
 
@@ -34,11 +34,7 @@ drop-sets (v ∷ vs) l n i h = drop-sets vs (set l i v) n (suc i) (omega arith) 
 module _ (s : State) (e : Entry) where
   by-decision : (P : State → Type 0) → P (appended s e) → P s → P (afterPut s e)
   unfolding afterPut
-  by-decision P a b = go (eqb (putRefusal s e) 0)
-    where
-      go : (t : Bool) → P (cond t (appended s e) s)
-      go true = a
-      go false = b
+  by-decision P a b = cond-holds P (eqb (putRefusal s e) 0) a b
 
   -- whatever put answers, the head and every earlier entry stay as they were
   pub put-keeps : take (s .writer .end) (afterPut s e .buffer) ≡ take (s .writer .end) (s .buffer)

@@ -1,4 +1,4 @@
--- What put answers in each case, as its checks go. Assumes nothing.
+-- What put answers in each case, in the order of its checks. Assumes nothing.
 use Prim.Native.Nat.{ℕ, suc, _+_, _≤_, _<_}
 use native.Mathlib.Omega.{arith}
 use mathlib.Core.Path.{_≡_, refl, sym, ap, _∙_}
@@ -63,15 +63,15 @@ module _ (s : State) (e : Entry) where
     pub has-capacity : full ≡ false
 
   pub passed : putRefusal s e ≡ 0 → Passed
-  passed h = go (fits s) (hasZero (e .name)) (eqb early 0) full refl refl refl refl (sym by-number ∙ h)
+  passed h = all-passed (fits s) (hasZero (e .name)) (eqb early 0) full refl refl refl refl (sym by-number ∙ h)
     where
-      go : (f z b t : Bool) → fits s ≡ f → hasZero (e .name) ≡ z → eqb early 0 ≡ b → full ≡ t
+      all-passed : (f z b t : Bool) → fits s ≡ f → hasZero (e .name) ≡ z → eqb early 0 ≡ b → full ≡ t
           → _≡_ {A = ℕ} (cond (not f) 2 (cond z 13 (cond b (cond t 3 0) early))) 0 → Passed
-      go true false true false p q b r e = record { fitted = p; zero-free = q; has-capacity = r }
-      go true false true true p q b r e = absurd (some-none 2 e)
-      go true false false t p q b r e = absurd (eqb-false early 0 b e)
-      go true true b t p q g r e = absurd (some-none 12 e)
-      go false z b t p q g r e = absurd (some-none 1 e)
+      all-passed true false true false p q b r e = record { fitted = p; zero-free = q; has-capacity = r }
+      all-passed true false true true p q b r e = absurd (some-none 2 e)
+      all-passed true false false t p q b r e = absurd (eqb-false early 0 b e)
+      all-passed true true b t p q g r e = absurd (some-none 12 e)
+      all-passed false z b t p q g r e = absurd (some-none 1 e)
 
   -- the effect: a refusal leaves everything, an accepted put appends
   pub refused-leaves : (k : ℕ) → k ≡ putRefusal s e → (k ≡ 0 → ⊥) → s ≡ afterPut s e

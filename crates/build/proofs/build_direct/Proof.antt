@@ -2,26 +2,18 @@
 use Prim.Native.Nat.{ℕ, _-_, _^_, _≤_, _<_}
 use native.Mathlib.Omega.{arith}
 use mathlib.Core.Path.{_≡_, refl, sym, ap, _∙_}
-use mathlib.Core.Bool.{true}
-use mathlib.Core.List.{List, _++_}
-use mathlib.Core.Logic.{⊎-elim}
-use lib.ListN.{length, getD, take, drop, replicate, length-replicate}
+use mathlib.Core.Bool.{Bool, true, _&&_}
+use mathlib.Core.List.{List}
+use lib.ListN.{length, getD, drop, replicate, length-replicate}
 use lib.Seq.{length-take-le, drop-at}
 use borrow.Author.Needs.{needs}
-use Rattle.image.specs.Image.{imageSize}
-use Rattle.image.proofs.Bools.{false-not-true}
 use Rattle.image.proofs.NameEnds.{begin-later, placed}
 use Rattle.serialize.specs.steps.Meeting.{Distinct}
 use Rattle.writer.specs.State.{refusesRepeats}
-use Rattle.writer.specs.declared.Repeats.the-variants.{On}
-use Rattle.writer.specs.Close.{afterClose}
-use Rattle.lists.specs.Calls.{puts}
-use Rattle.lists.specs.Demand3.{afterList}
-use Rattle.build.specs.Build.{listed}
 use Rattle.build.specs.steps.Stores.{listEntries, NoZeros}
 use Rattle.build.proofs.Needed.{sum-small}
 use Rattle.build.proofs.WrittenList.{names-short}
-use Rattle.build.proofs.ListWhole.{refusals-cleared, names-zero-free, closed-behind, left-image, left-size, all-built}
+use Rattle.build.proofs.ListWhole.{refusals-cleared, names-zero-free, all-built}
 use Rattle.build.proofs.build_direct.Statement.{statement}
 use Rattle.build.proofs.build_direct.Tie as tie
 
@@ -37,7 +29,7 @@ abbrev begun : tie.After-hash-list → tie.Start
 begun c = start (seen c)
 
 abbrev hashed : tie.After-write-list → tie.After-hash-list
-hashed c = c .before .before .before .before .before .before .before
+hashed c = c .before .before .before .before .before .before .before .before
 
 -- ---- what is known at them
 
@@ -68,13 +60,8 @@ slice-aggregate-any-zero : tie.Need-slice-aggregate-any-zero
 slice-aggregate-any-zero c =
     let s = c .before .before .before .before .before .before .before .before in
     let a = s .args in
-    let n = length (a .ends .now) in
-    sym (length-take-le _ (a .bytes .now) (placed (length (a .bytes .now)) (a .ends .now) (n - 1) (s .pre .list .packed) (omega (arith, s .pre .capacity .some)) .inside))
-
-returns : tie.Need-returns
-returns c =
-    let s = start (c .before) in
-    record { count-fits = few s; built = λ some. absurd (omega arith); behind = refl; rest = λ z. refl }
+    let last = placed (length (a .bytes .now)) (a .ends .now) (length (a .ends .now) - 1) (s .pre .list .packed) (omega (arith, s .pre .capacity .some)) in
+    sym (length-take-le _ (a .bytes .now) (last .inside))
 
 hash-list-requires : tie.Need-hash-list-requires
 hash-list-requires c κs =
@@ -90,7 +77,7 @@ hash-list-requires c κs =
 
 write-list-requires : tie.Need-write-list-requires
 write-list-requires c κs =
-    let h = c .before .before .before .before .before .before in
+    let h = c .before .before .before .before .before .before .before in
     let s = begun h in
     record {
       list = record {
@@ -104,50 +91,33 @@ write-list-requires c κs =
       tallies = h .hash-list .ensures .tallies (s .args .ids .now) (s .pre .list .ids-long);
     }
 
--- the buffer is that of the list, closed
-closed : (w : tie.After-write-list) → let s = begun (hashed w) in let a = s .args in
-    w .write-list .last .1 .1 .1 .0 ≡ afterClose (afterList (a .mode) On (a .buf .now) (listed (a .bytes .now) (a .ends .now) (a .ids .now))) .buffer
-closed w =
-    let h = hashed w in
-    let s = begun h in
-    left-image (s .args .mode) (s .pre .list) (s .pre .capacity .fits) (words (seen h)) (clean h) (w .write-list .ensures .leaves)
-
 returns-2 : tie.Need-returns-2
 returns-2 c =
-    let w = c .before .before .before .before .before .before .before in
+    let w = c .before .before .before .before .before .before in
     let h = hashed w in
-    let s = begun h in
-    let a = s .args in
-    record {
-      count-fits = few s;
-      built = λ some. absurd (omega arith);
-      behind =
-          ap (drop (imageSize (a .mode) (puts (listed (a .bytes .now) (a .ends .now) (a .ids .now))))) (closed w) ∙ closed-behind (a .mode) On (s .pre .list) (words (seen h));
-      rest = λ z. h .hash-list .ensures .rest;
-    }
-
-clear-words-requires : tie.Need-clear-words-requires
-clear-words-requires c κs = omega (arith, hashes-long (hashed (c .before .before .before .before .before .before .before)))
+    let kept = w .write-list .ensures .behind in
+    record { count-fits = few (begun h); built = λ some. absurd (omega arith); behind = kept; rest = λ z. h .hash-list .ensures .rest }
 
 returns-3 : tie.Need-returns-3
 returns-3 c =
     let z = c .before .before in
-    let r = z .before .before .before in
-    let w = r .before .before .before .before .before in
+    let w = z .before .before .before .before .before .before .before .before in
     let h = hashed w in
     let s = begun h in
     let a = s .args in
     let n = length (a .ends .now) in
+    let on = z .before .before .if2 .left in
     let apart : refusesRepeats (a .repeats) ≡ true → Distinct (listEntries (a .bytes .now) (a .ends .now) (a .ids .now)) = λ off.
     w .write-list .ensures .distinct
-    (⊎-elim (λ u. u .1 .left) (λ u. absurd (false-not-true (sym (u .left) ∙ r .refuses .ensures ∙ off))) (z .before .before .if2 .came)) in
-    let cleared = refusals-cleared n _ (hashes-in h) (a .refusals .now) (z .clear-words .kept .0) (hashes-long h) (z .clear-words .ensures) (h .hash-list .ensures .rest) in
-    let built = all-built (a .mode) (s .pre .list) (s .pre .capacity .fits) (words (seen h)) (clean h) (a .repeats) apart
-    (w .write-list .ensures .sized ∙ sym (left-size (a .mode) (s .pre .list) (s .pre .capacity .fits) (words (seen h)) (clean h))) (closed w) cleared in
+    (sym (ap (λ (b : Bool). b && w .write-list .result .met) (w .before .before .before .before .before .refuses .ensures ∙ off)) ∙ on) in
+    let cleared = refusals-cleared n _ (hashes-in h) (a .refusals .now) (z .clear-words .kept .0) (hashes-long h) (z .clear-words .ensures)
+    (h .hash-list .ensures .rest) in
+    let done = w .write-list .ensures in
     record {
       count-fits = few s;
-      built = λ some. built;
-      behind = built .behind;
+      built = λ some. all-built (a .mode) (a .repeats) (s .pre .list) (s .pre .capacity .fits) (words (seen h)) (clean h) apart
+          (done .sized) (done .leaves on) (done .behind) cleared;
+      behind = done .behind;
       rest = λ y. ap (drop n) cleared ∙ drop-at (replicate n 0) (drop n (a .refusals .now)) n (length-replicate {A = ℕ} n 0);
     }
 
@@ -160,15 +130,15 @@ build-direct-spec =
     (λ c. search needs)
     slice-aggregate-any-zero
     (λ c κs. search needs)
-    returns
+    (λ c. let s = start (c .before) in record { count-fits = few s; built = λ some. absurd (omega arith); behind = refl; rest = λ z. refl })
     hash-list-requires
-    write-list-requires
     (λ c κs. search needs)
+    write-list-requires
     (λ c. search needs)
     (λ c. search needs)
     (λ c. search needs)
     returns-2
-    clear-words-requires
+    (λ c κs. omega (arith, hashes-long (hashed (c .before .before .before .before .before .before .before))))
     (λ c. search needs)
     (λ c. search needs)
     (λ c. search needs)

@@ -25,22 +25,10 @@ word-ids c i h = omega (arith, c .before .before .before .shared-slice-known3 .g
 
 -- ---- the needs
 
-build-singly-requires : tie.Need-build-singly-requires
-build-singly-requires c κs = start (c .before .before .before .before) .pre
-
-returns : tie.Need-returns
-returns c = c .before .before .before .before .before .before .build-singly .ensures
-
 build-direct-requires : tie.Need-build-direct-requires
 build-direct-requires c κs =
     let h = c .before .before .before .before in
     record { list = start h .pre; capacity = h .has-capacity .ensures (not-false _ (c .before .before .before .if1 .left)) }
-
-cast-accepted : tie.Need-cast-accepted
-cast-accepted c = omega (arith, c .before .before .before .before .before .before .before .build-direct .ensures .count-fits)
-
-returns-2 : tie.Need-returns-2
-returns-2 c = c .before .before .before .before .before .before .before .build-direct .ensures .built (c .if2 .taken)
 
 build-singly-requires-2 : tie.Need-build-singly-requires-2
 build-singly-requires-2 c κs =
@@ -63,24 +51,25 @@ returns-3 c =
     let k = d .build-direct .kept in
     let t = d .build-direct .ensures in
     let none : d .build-direct .result ≡ 0 = omega (arith, e .if2 .left) in
-    built-after (s .args .mode) (s .args .repeats) (s .pre) (word-ids (asked d)) (k .1 .1 .0) (t .behind) (k .1 .1 .1 .1 .1 .1 .0) (t .rest none) (b .build-singly2 .ensures)
+    built-after (s .args .mode) (s .args .repeats) (s .pre) (word-ids (asked d)) (k .1 .1 .0) (t .behind) (k .1 .1 .1 .1 .1 .1 .0) (t .rest none)
+    (b .build-singly2 .ensures)
 
 pub build-list-spec : {M : Type 1} → statement M
 build-list-spec =
     tie.close
     (tie.spec
     (λ c κs. search needs)
-    build-singly-requires
+    (λ c κs. start (c .before .before .before .before) .pre)
     (λ c. search needs)
     (λ c. search needs)
     (λ c. search needs)
-    returns
+    (λ c. c .before .before .before .before .before .before .build-singly .ensures)
     build-direct-requires
-    cast-accepted
+    (λ c. omega (arith, c .before .before .before .before .before .before .before .build-direct .ensures .count-fits))
     (λ c. search needs)
     (λ c. search needs)
     (λ c. search needs)
-    returns-2
+    (λ c. c .before .before .before .before .before .before .before .build-direct .ensures .built (c .if2 .taken))
     build-singly-requires-2
     (λ c. search needs)
     (λ c. search needs)

@@ -1,8 +1,8 @@
 -- `build::build_singly` meets its contract. Assumes nothing.
-use Prim.Native.Nat.{ℕ, _^_, _≤_, _<_}
+use Prim.Native.Nat.{ℕ, _^_, _<_}
 use native.Mathlib.Omega.{arith}
 use mathlib.Core.Path.{_≡_, refl, sym, ap, _∙_}
-use mathlib.Core.List.{List, _++_}
+use mathlib.Core.List.{_++_}
 use lib.ListN.{length, getD, take, drop}
 use lib.Seq.{length-take-le}
 use borrow.Author.Needs.{needs}
@@ -33,7 +33,8 @@ begun c = start (sized (cleared (opened c)))
 
 -- ---- what is known at them
 
-slots-long : (c : tie.After-scratch-for-index) → let a = start c .args in length (take (c .scratch-for-index .result) (a .scratch .now)) ≡ c .scratch-for-index .result
+slots-long : (c : tie.After-scratch-for-index)
+    → let a = start c .args in length (take (c .scratch-for-index .result) (a .scratch .now)) ≡ c .scratch-for-index .result
 slots-long c = length-take-le (c .scratch-for-index .result) (start c .args .scratch .now) (c .scratch-for-index .ensures .within)
 
 word-ids : (c : tie.After-put-list) → let a = begun c .args in (i : ℕ) → i < length (a .ends .now) → getD (a .ids .now) i 0 < 2 ^ 32
@@ -77,9 +78,10 @@ returns c =
     let p = f .before .before .before .before .before .before .before .before .before in
     let s = begun p in
     let a = s .args in
+    let cs = listed (a .bytes .now) (a .ends .now) (a .ids .now) in
     list-built (a .mode) (a .repeats) (s .pre) (word-ids p) (leaves p) (f .finish-list .ensures)
     (p .put-list .ensures .answers
-    ∙ ap (λ (x : CQDBWriter). answersOf (x .mode) (x .repeats) (a .buf .now) (listed (a .bytes .now) (a .ends .now) (a .ids .now)) ++ drop (length (a .ends .now)) (a .refusals .now)) (opened p .begun .ensures))
+    ∙ ap (λ (x : CQDBWriter). answersOf (x .mode) (x .repeats) (a .buf .now) cs ++ drop (length (a .ends .now)) (a .refusals .now)) (opened p .begun .ensures))
 
 pub build-singly-spec : {M : Type 1} → statement M
 build-singly-spec =

@@ -1,7 +1,7 @@
 -- What hashing a list and writing its image ask and give. No rule stands here: proofs/ joins it to the rules.
 use Prim.Native.Nat.{ℕ, _≤_, _<_}
 use mathlib.Core.Path.{_≡_}
-use mathlib.Core.Bool.{Bool, false}
+use mathlib.Core.Bool.{Bool, false, _&&_}
 use mathlib.Core.List.{List, _++_}
 use lib.ListN.{length, getD, drop, replicate}
 use Rattle.jhash.specs.NameHash.{hashOf}
@@ -11,7 +11,7 @@ use Rattle.image.specs.declared.Mode.{Mode}
 use Rattle.image.specs.PackedNames.{names, nth, invalidEnds}
 use Rattle.serialize.specs.steps.Meeting.{Distinct}
 use Rattle.build.specs.steps.Capacity.{Capacity}
-use Rattle.build.specs.steps.Steps.{entriesListed, ListPre}
+use Rattle.build.specs.steps.Steps.{entriesListed, ListPre, KeptBehind}
 
 -- the entries of all names
 abbrev pub listEntries : List ℕ → List ℕ → List ℕ → List Entry
@@ -50,10 +50,13 @@ pub record WriteListPre (mode : Mode) (counts hashes buffer bytes ends ids : Lis
   pub hashed : Hashes bytes ends hashes (length ends)
   pub tallies : Tallied counts (listEntries bytes ends ids)
 
--- the image of all names, with what is behind it as it was; if none of equal name met, no two have equal names
-pub record ListWritten (mode : Mode) (buffer bytes ends ids : List ℕ) (size : ℕ) (met : Bool) (bufferThen : List ℕ)
-    : Type 0 where
+-- the image of all names, with what is behind it as it was; if none of equal name met, no two have equal names. With
+-- `stop` and one met, what is behind the image is as it was
+pub record ListWritten (stop : Bool) (mode : Mode) (buffer bytes ends ids : List ℕ) (size : ℕ) (met : Bool)
+    (bufferThen : List ℕ) : Type 0 where
   pub sized : size ≡ imageSize mode (listEntries bytes ends ids)
-  pub leaves : bufferThen
+  pub leaves : (stop && met) ≡ false
+      → bufferThen
       ≡ image mode (listEntries bytes ends ids) ++ drop (imageSize mode (listEntries bytes ends ids)) buffer
+  pub behind : KeptBehind mode bytes ends ids buffer bufferThen
   pub distinct : met ≡ false → Distinct (listEntries bytes ends ids)

@@ -28,28 +28,31 @@ module _ (c : tie.After-build) where
   abbrev start : tie.Start
   start = begun (accepted (moded c))
 
-  promised : let a = start .args in
-      Promise (moded c .mode-of .result) (c .before .before .before .before .repeats-of .result) (a .buf .now) (a .names .now) (a .ends .now) (a .ids .now) (a .refusals .now) (a .scratch .now)
-      (builtOf (c .build .result)) (c .build .last .1 .1 .0) (c .build .last .1 .1 .1 .1 .1 .1 .0) (c .build .last .1 .1 .1 .1 .1 .1 .1 .0)
+  promised : let a = start .args in let b = c .build in
+      Promise (moded c .mode-of .result) (c .before .before .before .before .repeats-of .result) (a .buf .now) (a .names .now) (a .ends .now) (a .ids .now)
+      (a .refusals .now) (a .scratch .now) (builtOf (b .result)) (b .last .1 .1 .0) (b .last .1 .1 .1 .1 .1 .1 .0) (b .last .1 .1 .1 .1 .1 .1 .1 .0)
   promised =
       let p = c .build .ensures in
       record { answer = p .0; leaves = p .1 .0; answers = p .1 .1 .0; untouched = p .1 .1 .1 }
 
-  told : (builtAnswer (builtOf (c .build .result)) ≡ buildAnswer (start .args .mode) (start .args .repeats) (start .args .buf .now) (start .args .names .now) (start .args .ends .now) (start .args .ids .now) (length (start .args .refusals .now)))
-      × BufferLeft (start .args .mode) (start .args .repeats) (start .args .buf .now) (start .args .names .now) (start .args .ends .now) (start .args .ids .now) (length (start .args .refusals .now)) (c .build .last .1 .1 .0)
-      × (c .build .last .1 .1 .1 .1 .1 .1 .0 ≡ answersBuilt (start .args .mode) (start .args .repeats) (start .args .buf .now) (start .args .names .now) (start .args .ends .now) (start .args .ids .now) (start .args .refusals .now))
+  told : let a = start .args in let places = length (a .refusals .now) in
+      (builtAnswer (builtOf (c .build .result)) ≡ buildAnswer (a .mode) (a .repeats) (a .buf .now) (a .names .now) (a .ends .now) (a .ids .now) places)
+      × BufferLeft (a .mode) (a .repeats) (a .buf .now) (a .names .now) (a .ends .now) (a .ids .now) places (c .build .last .1 .1 .0)
+      × (c .build .last .1 .1 .1 .1 .1 .1 .0
+      ≡ answersBuilt (a .mode) (a .repeats) (a .buf .now) (a .names .now) (a .ends .now) (a .ids .now) (a .refusals .now))
   told =
       let m = moded c .mode-of in
       let r = c .before .before .before .before .repeats-of in
-      let done = c .build in
+      let a = start .args in
       let fine = sym (accepted (moded c) .valid-numbers .ensures) ∙ not-false _ (moded c .before .if1 .left) in
-      known-build (start .args .mode) (start .args .repeats) (start .args .buf .now) (start .args .names .now) (start .args .ends .now) (start .args .ids .now) (start .args .refusals .now) fine (m .result) (r .result)
-      (m .ensures) (r .ensures) (builtOf (done .result)) _ _ (promised .answer) (promised .leaves) (promised .answers)
+      known-build (a .mode) (a .repeats) (a .buf .now) (a .names .now) (a .ends .now) (a .ids .now) (a .refusals .now) fine (m .result) (r .result)
+      (m .ensures) (r .ensures) (builtOf (c .build .result)) _ _ (promised .answer) (promised .leaves) (promised .answers)
 
 returns : tie.Need-returns
 returns c =
     let a = begun (c .before) .args in
-    let out = unknown-build (a .mode) (a .repeats) (a .buf .now) (a .names .now) (a .ends .now) (a .ids .now) (a .refusals .now) (sym (c .before .valid-numbers .ensures) ∙ not-true _ (c .if1 .taken)) in
+    let out = unknown-build (a .mode) (a .repeats) (a .buf .now) (a .names .now) (a .ends .now) (a .ids .now) (a .refusals .now)
+    (sym (c .before .valid-numbers .ensures) ∙ not-true _ (c .if1 .taken)) in
     (out .0, (out .1, (out .2, λ h. refl)))
 
 -- the call, from the words that it leaves
@@ -67,7 +70,8 @@ returns-3 c =
     let a = start b .args in
     let build = promised b in
     let out = told b in
-    let some = refused-some (moded b .mode-of .result) (b .before .before .before .before .repeats-of .result) (a .buf .now) (a .names .now) (a .ends .now) (a .ids .now) (length (a .refusals .now)) _ (sym (build .answer) ∙ ap builtOf (c .before .built2 .given .1)) in
+    let some = refused-some (moded b .mode-of .result) (b .before .before .before .before .repeats-of .result) (a .buf .now) (a .names .now) (a .ends .now)
+    (a .ids .now) (length (a .refusals .now)) _ (sym (build .answer) ∙ ap builtOf (c .before .built2 .given .1)) in
     (ap (λ (b : Built). builtAnswer (builtOf b)) (sym (c .before .built2 .given .1)) ∙ out .0, (out .1, (out .2, λ h. build .untouched some)))
 
 pub cqdb-build-parts-spec : {M : Type 1} → statement M

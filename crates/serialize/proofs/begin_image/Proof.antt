@@ -18,19 +18,12 @@ returns c =
     let front = sized .before .before .before in
     let a = front .before .before .before .before .args in
     record {
-      image = begun-parts (a .mode) (a .end) (a .entries) (a .back) (a .counts .now) (a .buf .now) (front .write-front .ensures .front) (sized .finished-size .ensures)
+      image = begun-parts (a .mode) (a .end) (a .entries) (a .back) (a .counts .now) (a .buf .now)
+          (front .write-front .ensures .front) (sized .finished-size .ensures)
           (c .before .before .clear-bytes .ensures);
       begins = front .write-front .ensures .begins;
     }
 
 pub begin-image-spec : {M : Type 1} → statement M
 begin-image-spec =
-    tie.close
-    (tie.spec
-    (λ c κs. search needs)
-    (λ c κs. search needs)
-    (λ c. search needs)
-    (λ c. search needs)
-    clear-bytes-requires
-    (λ c. search needs)
-    returns)
+    tie.close (tie.spec (λ c κs. search needs) (λ c κs. search needs) (λ c. search needs) (λ c. search needs) clear-bytes-requires (λ c. search needs) returns)

@@ -1,7 +1,5 @@
 -- `serialize::write_image` meets its contract. Assumes nothing.
-use Prim.Native.Nat.{ℕ, _<_}
 use native.Mathlib.Omega.{arith}
-use lib.ListN.{getD}
 use Rattle.image.proofs.EntryArea.{AllBytes}
 use Rattle.serialize.specs.steps.Written.{FillAllPre}
 use Rattle.serialize.proofs.WriteSteps.{backOffset-le}
@@ -24,7 +22,8 @@ bytes : (c : tie.After-back-offset) → AllBytes (start c .args .buf .now)
 bytes c i = omega (arith, begun c .before .before .before .slice-known .given i)
 
 -- entries end in the image, and the image in the buffer
-room : (c : tie.After-back-offset) → FillAllPre (c .back-offset .result) (start c .args .end) (c .before .finished-size .result) (begun c .begin-image .last .1 .1 .1 .1 .1 .0)
+room : (c : tie.After-back-offset)
+    → FillAllPre (c .back-offset .result) (start c .args .end) (c .before .finished-size .result) (begun c .begin-image .last .1 .1 .1 .1 .1 .0)
 room c =
     let pre = start c .pre in
     let a = start c .args in
@@ -38,9 +37,6 @@ room c =
     }
 
 -- ---- the needs
-
-insert-singly-requires : tie.Need-insert-singly-requires
-insert-singly-requires c κs = room (c .before .before .before)
 
 returns : tie.Need-returns
 returns c =
@@ -83,7 +79,7 @@ write-image-spec =
     (λ c κs. search needs)
     (λ c κs. search needs)
     (λ c κs. search needs)
-    insert-singly-requires
+    (λ c κs. room (c .before .before .before))
     (λ c. search needs)
     returns
     partition-entries-requires

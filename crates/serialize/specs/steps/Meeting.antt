@@ -1,8 +1,9 @@
 -- Whether two entries of equal name meet while the tables are filled: what each step leaves, as the code goes, and what
--- holds if it has met none. No rule of 01 stands here.
+-- holds if it has met none. With `stop` a step ends where an entry meets one of equal name, and then nothing is said of
+-- what it leaves. No rule of 01 stands here.
 use Prim.Native.Nat.{ℕ, zero, suc, _+_, _*_, _-_, _<_, _≤_}
 use mathlib.Core.Path.{_≡_}
-use mathlib.Core.Bool.{Bool, true, false}
+use mathlib.Core.Bool.{Bool, true, false, _&&_}
 use mathlib.Core.Logic.{_⊎_}
 use mathlib.Core.List.{List, [], _∷_}
 use lib.ListN.{length, getD, take, drop}
@@ -97,18 +98,19 @@ UnmetFrom mode back-offset end (suc m) at buf =
     RowUnmet buf end (entryHash buf at n) at
     × UnmetFrom mode back-offset end m (at + (8 + n)) (entryInserted mode back-offset buf at n)
 
-pub record EntriesInserted (mode : Mode) (back-offset end entries : ℕ) (buf after : List ℕ) (met : Bool) : Type 0 where
-  pub leaves : after ≡ insertedFrom mode back-offset end entries headSize buf
+pub record EntriesInserted (stop : Bool) (mode : Mode) (back-offset end entries : ℕ) (buf after : List ℕ) (met : Bool)
+    : Type 0 where
+  pub leaves : (stop && met) ≡ false → after ≡ insertedFrom mode back-offset end entries headSize buf
   pub unmet : met ≡ false → UnmetFrom mode back-offset end entries headSize buf
 
 -- ---- by tables
 
-pub record PairsInserted (buf : List ℕ) (end o c : ℕ) (pairs after : List ℕ) (met : Bool) : Type 0 where
-  pub leaves : after ≡ tableStored buf o c (pairsIn pairs c)
+pub record PairsInserted (stop : Bool) (buf : List ℕ) (end o c : ℕ) (pairs after : List ℕ) (met : Bool) : Type 0 where
+  pub leaves : (stop && met) ≡ false → after ≡ tableStored buf o c (pairsIn pairs c)
   pub apart : met ≡ false → Apart (take end buf) (pairsIn pairs c)
 
-pub record TableDone (buf : List ℕ) (end o c : ℕ) (after : List ℕ) (met : Bool) : Type 0 where
-  pub leaves : after ≡ tableFilled buf o c
+pub record TableDone (stop : Bool) (buf : List ℕ) (end o c : ℕ) (after : List ℕ) (met : Bool) : Type 0 where
+  pub leaves : (stop && met) ≡ false → after ≡ tableFilled buf o c
   pub apart : met ≡ false → Apart (take end buf) (pairsStored buf o c)
 
 -- the pairs of the m tables from t on
@@ -118,21 +120,21 @@ TablesApart front counts o t (suc m) buf =
     Apart front (pairsStored buf o (getD counts t 0))
     × TablesApart front counts (o + 16 * getD counts t 0) (suc t) m (tableFilled buf o (getD counts t 0))
 
-pub record TablesDone (counts : List ℕ) (end : ℕ) (buf after : List ℕ) (met : Bool) : Type 0 where
-  pub leaves : after ≡ tablesFrom counts end 0 256 buf
+pub record TablesDone (stop : Bool) (counts : List ℕ) (end : ℕ) (buf after : List ℕ) (met : Bool) : Type 0 where
+  pub leaves : (stop && met) ≡ false → after ≡ tablesFrom counts end 0 256 buf
   pub apart : met ≡ false → TablesApart (take end buf) counts end 0 256 buf
 
 -- ---- all
 
 -- one by one, into tables and a back array that were cleared
-abbrev pub SinglyDone : Mode → ℕ → ℕ → ℕ → ℕ → List ℕ → List ℕ → Bool → Type 0
-SinglyDone mode back-offset end entries size buf after met =
-    EntriesInserted mode back-offset end entries (zeroed buf end size) after met
+abbrev pub SinglyDone : Bool → Mode → ℕ → ℕ → ℕ → ℕ → List ℕ → List ℕ → Bool → Type 0
+SinglyDone stop mode back-offset end entries size buf after met =
+    EntriesInserted stop mode back-offset end entries (zeroed buf end size) after met
 
 -- by either way
-abbrev pub AllDone : Mode → ℕ → ℕ → ℕ → ℕ → List ℕ → List ℕ → List ℕ → Bool → Type 0
-AllDone mode back-offset end entries size counts buf after met =
-    TablesDone counts end buf after met ⊎ SinglyDone mode back-offset end entries size buf after met
+abbrev pub AllDone : Bool → Mode → ℕ → ℕ → ℕ → ℕ → List ℕ → List ℕ → List ℕ → Bool → Type 0
+AllDone stop mode back-offset end entries size counts buf after met =
+    TablesDone stop counts end buf after met ⊎ SinglyDone stop mode back-offset end entries size buf after met
 
 pub record ImageWritten (mode : Mode) (end entries back : ℕ) (buf after : List ℕ) (met : Bool) : Type 0 where
   pub leaves : after ≡ serialized mode end entries back buf

@@ -24,16 +24,10 @@ sized : (c : tie.After-too-large)
     → let w = start (c .before .before) .args .w in tooLarge (w .length) (finishedSize w) ≡ c .too-large .result
 sized c = ap (tooLarge (start (c .before .before) .args .w .length)) (sym (c .before .finished-size .ensures)) ∙ sym (c .too-large .ensures)
 
-returns : tie.Need-returns
-returns c = due-unfit (state (c .before .before .before)) (sym (c .before .fits2 .ensures) ∙ not-true _ (c .if1 .taken))
-
 finished-size-requires : tie.Need-finished-size-requires
 finished-size-requires c κs =
     let a = start c .args in
     omega (arith, fitting (a .w) (a .counts .now) (a .buf .now) (fitted c), start c .good)
-
-returns-2 : tie.Need-returns-2
-returns-2 c = let f = c .before .before .before in due-big (state (start f)) (fitted f) (sized (c .before) ∙ c .if2 .taken)
 
 agrees-requires : tie.Need-agrees-requires
 agrees-requires c κs =
@@ -57,10 +51,10 @@ close-refusal-spec =
     tie.close
     (tie.spec
     (λ c κs. search needs)
-    returns
+    (λ c. due-unfit (state (c .before .before .before)) (sym (c .before .fits2 .ensures) ∙ not-true _ (c .if1 .taken)))
     finished-size-requires
     (λ c κs. search needs)
-    returns-2
+    (λ c. let f = c .before .before .before in due-big (state (start f)) (fitted f) (sized (c .before) ∙ c .if2 .taken))
     agrees-requires
     returns-3
     returns-4)

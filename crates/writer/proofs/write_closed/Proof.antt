@@ -30,7 +30,8 @@ cast-result c =
     let s = start (c .before .before) in
     let a = s .args in
     let k = accepted (stateWith (a .w) (a .counts .now) (a .buf .now)) (s .pre) in
-    omega (arith, c .before .before .before .before .finished-size .ensures, stands (a .w) (a .counts .now) (a .buf .now) (k .fit) (k .fine) (k .all) .fits-word)
+    let asked = stands (a .w) (a .counts .now) (a .buf .now) (k .fit) (k .fine) (k .all) in
+    omega (arith, c .before .before .before .before .finished-size .ensures, asked .fits-word)
 
 returns : tie.Need-returns
 returns c =

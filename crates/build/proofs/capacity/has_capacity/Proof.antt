@@ -12,26 +12,6 @@ use Rattle.build.proofs.capacity.has_capacity.Tie as tie
 abbrev start : tie.After-for-list → tie.Start
 start c = c .before .before .before .before .before .before
 
-returns : tie.Need-returns
-returns c = λ e. absurd (false-not-true e)
-
-sub-for-list : tie.Need-sub-for-list
-sub-for-list c = omega (arith, c .if1 .left)
-
-shared-slice-read-for-list : tie.Need-shared-slice-read-for-list
-shared-slice-read-for-list c = omega (arith, c .before .if1 .left)
-
-slice-aggregate-for-list : tie.Need-slice-aggregate-for-list
-slice-aggregate-for-list c =
-    let s = c .before .before .before .before .before in
-    sym (length-take-le (length (s .args .ends .now)) (s .args .ids .now) (s .pre))
-
-returns-2 : tie.Need-returns-2
-returns-2 c = λ e. absurd (false-not-true e)
-
-returns-3 : tie.Need-returns-3
-returns-3 c = λ e. absurd (false-not-true e)
-
 returns-4 : tie.Need-returns-4
 returns-4 c =
     let f = c .before .before .before .before in
@@ -45,12 +25,12 @@ pub has-capacity-spec : {M : Type 1} → statement M
 has-capacity-spec =
     tie.close
     (tie.spec
-    returns
-    sub-for-list
+    (λ c. λ e. absurd (false-not-true e))
+    (λ c. omega (arith, c .if1 .left))
     (λ c. search needs)
-    shared-slice-read-for-list
-    slice-aggregate-for-list
+    (λ c. omega (arith, c .before .if1 .left))
+    (λ c. let s = c .before .before .before .before .before in sym (length-take-le (length (s .args .ends .now)) (s .args .ids .now) (s .pre)))
     (λ c κs. search needs)
-    returns-2
-    returns-3
+    (λ c. λ e. absurd (false-not-true e))
+    (λ c. λ e. absurd (false-not-true e))
     returns-4)

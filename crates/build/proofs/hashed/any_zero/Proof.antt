@@ -21,9 +21,6 @@ Inv-loop bytes any₀ i₀ any i = Seen bytes any i
 abbrev μ-loop : tie.MeasureT-loop
 μ-loop bytes any₀ i₀ any i = length bytes - i
 
-loop-holds : tie.Need-loop-holds Inv-loop μ-loop
-loop-holds c = record { inside = omega arith; whole = refl }
-
 loop-again : tie.Need-loop-again Inv-loop μ-loop
 loop-again c =
     let l = c .before .before .loop in
@@ -32,20 +29,15 @@ loop-again c =
       whole = any-zero-step _ (l .i) (l .any) _ (c .before .loop-test .taken) (l .inv .whole);
     }
 
-returns : tie.Need-returns Inv-loop μ-loop
-returns c =
-    let l = c .before .loop in
-    any-zero-end _ (l .i) (l .any) _ (omega (arith, c .loop-test .left)) (l .inv .whole)
-
 pub any-zero-spec : {M : Type 1} → statement M
 any-zero-spec =
     tie.close
     (tie.spec
     Inv-loop
     μ-loop
-    loop-holds
+    (λ c. record { inside = omega arith; whole = refl })
     (λ c. search needs)
     (λ c. search needs)
     (λ c. search needs)
     loop-again
-    returns)
+    (λ c. let l = c .before .loop in any-zero-end _ (l .i) (l .any) _ (omega (arith, c .loop-test .left)) (l .inv .whole)))

@@ -23,9 +23,6 @@ entered c = c .before .before
 
 -- ---- the needs
 
-nth-name-requires : tie.Need-nth-name-requires Inv-loop μ-loop
-nth-name-requires c κs = record { inside = c .loop-test .taken; ends-rise = start (c .before) .pre .packed }
-
 slice-write-hashes : tie.Need-slice-write-hashes Inv-loop μ-loop
 slice-write-hashes c =
     let l = entered c .before in
@@ -44,9 +41,6 @@ loop-again c =
     hashing-step (start l .pre) (l .loop .inv) (entered h .loop-test .taken) (h .before .nth-name .ensures) (h .hash-name .ensures) (start l .pre .hashes-long)
     (c .raise .ensures)
 
-returns : tie.Need-returns Inv-loop μ-loop
-returns c = hashing-end (start (c .before) .pre) (c .before .loop .inv) (omega (arith, c .loop-test .left))
-
 pub hash-list-spec : {M : Type 1} → statement M
 hash-list-spec =
     tie.close
@@ -54,7 +48,7 @@ hash-list-spec =
     Inv-loop
     μ-loop
     (λ c. hashing-start (c .before .before .before .pre))
-    nth-name-requires
+    (λ c κs. record { inside = c .loop-test .taken; ends-rise = start (c .before) .pre .packed })
     (λ c κs. search needs)
     (λ c. search needs)
     slice-write-hashes
@@ -63,4 +57,4 @@ hash-list-spec =
     (λ c. omega (arith, entered (c .before .before) .loop-test .taken))
     loop-again
     (λ c. c .before .loop .inv .size)
-    returns)
+    (λ c. hashing-end (start (c .before) .pre) (c .before .loop .inv) (omega (arith, c .loop-test .left))))

@@ -19,7 +19,8 @@ loop-holds c = let s = c .before in largest-start (s .args .ids .now) (s .pre)
 loop-again : tie.Need-loop-again Inv-loop μ-loop
 loop-again c =
     let l = c .before .before .before .loop in
-    largest-step (c .before .before .before .before .before .args .ids .now) (l .i) (l .top) (c .larger .result) (l .inv) (c .before .before .loop-test .taken) (c .larger .ensures)
+    largest-step (c .before .before .before .before .before .args .ids .now) (l .i) (l .top) (c .larger .result) (l .inv)
+    (c .before .before .loop-test .taken) (c .larger .ensures)
 
 returns : tie.Need-returns Inv-loop μ-loop
 returns c =
@@ -27,4 +28,7 @@ returns c =
     largest-end (c .before .before .before .args .ids .now) (l .i) (l .top) (l .inv) (omega (arith, c .loop-test .left))
 
 pub largest-spec : {M : Type 1} → statement M
-largest-spec = tie.close (tie.spec Inv-loop μ-loop loop-holds (λ c. search needs) (λ c. search needs) (λ c κs. search needs) (λ c. search needs) (λ c. search needs) loop-again returns)
+largest-spec =
+    tie.close
+    (tie.spec Inv-loop μ-loop loop-holds (λ c. search needs) (λ c. search needs) (λ c κs. search needs) (λ c. search needs) (λ c. search needs) loop-again
+    returns)

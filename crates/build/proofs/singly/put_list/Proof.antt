@@ -53,19 +53,6 @@ loop-holds c =
       puts = puts-start (s .pre .begun) (s .pre .list .head-fits) (s .pre .cleared);
     }
 
-nth-name-requires : tie.Need-nth-name-requires Inv-loop μ-loop
-nth-name-requires c κs = record { inside = c .loop-test .taken; ends-rise = start c .pre .list .packed }
-
-mul-put-name : tie.Need-mul-put-name Inv-loop μ-loop
-mul-put-name c =
-    let e = c .before .before .before .before in
-    omega (arith, e .loop-test .taken, start e .pre .list .ids-long, start e .good)
-
-shared-slice-read-put-name : tie.Need-shared-slice-read-put-name Inv-loop μ-loop
-shared-slice-read-put-name c =
-    let e = c .before .before .before .before .before in
-    omega (arith, e .loop-test .taken, start e .pre .list .ids-long)
-
 put-name-requires : tie.Need-put-name-requires Inv-loop μ-loop
 put-name-requires c κs =
     let e = c .before .before .before .before .before in
@@ -74,24 +61,6 @@ put-name-requires c κs =
       index = v .puts .index;
       spare = λ h. omega (arith, v .puts .few, e .loop-test .taken, start e .pre .enough (omega (arith, h, v .slots-length)), v .slots-length);
     }
-
-mul-refusals : tie.Need-mul-refusals Inv-loop μ-loop
-mul-refusals c =
-    let e = entered c in
-    omega (arith, e .loop-test .taken, e .before .loop .inv .puts .size, start e .pre .list .refusals-long, start e .good)
-
-slice-write-refusals : tie.Need-slice-write-refusals Inv-loop μ-loop
-slice-write-refusals c =
-    let e = entered c in
-    omega (arith, e .loop-test .taken, e .before .loop .inv .puts .size, start e .pre .list .refusals-long)
-
-add-i : tie.Need-add-i Inv-loop μ-loop
-add-i c =
-    let e = entered c in
-    omega (arith, e .loop-test .taken, start e .good)
-
-loop-less : tie.Need-loop-less Inv-loop μ-loop
-loop-less c = omega (arith, entered c .loop-test .taken)
 
 loop-again : tie.Need-loop-again Inv-loop μ-loop
 loop-again c =
@@ -110,7 +79,8 @@ loop-again c =
       inside = omega (arith, e .loop-test .taken);
       buffer-length = search needs;
       slots-length = done .kept .1 .1 .1 .0 ∙ l .inv .slots-length;
-      puts = puts-turn g inside many room _ (named p .nth-name .ensures) (done .result .refusal) _ (done .last .1 .1 .1 .0) (done .ensures) (done .kept .1 .1 .1 .0);
+      puts = puts-turn g inside many room _ (named p .nth-name .ensures) (done .result .refusal) _ (done .last .1 .1 .1 .0) (done .ensures)
+          (done .kept .1 .1 .1 .0);
     }
 
 returns : tie.Need-returns Inv-loop μ-loop
@@ -131,14 +101,14 @@ put-list-spec =
     Inv-loop
     μ-loop
     loop-holds
-    nth-name-requires
-    mul-put-name
-    shared-slice-read-put-name
+    (λ c κs. record { inside = c .loop-test .taken; ends-rise = start c .pre .list .packed })
+    (λ c. let e = c .before .before .before .before in omega (arith, e .loop-test .taken, start e .pre .list .ids-long, start e .good))
+    (λ c. let e = c .before .before .before .before .before in omega (arith, e .loop-test .taken, start e .pre .list .ids-long))
     put-name-requires
-    mul-refusals
-    slice-write-refusals
-    add-i
-    loop-less
+    (λ c. let e = entered c in omega (arith, e .loop-test .taken, e .before .loop .inv .puts .size, start e .pre .list .refusals-long, start e .good))
+    (λ c. let e = entered c in omega (arith, e .loop-test .taken, e .before .loop .inv .puts .size, start e .pre .list .refusals-long))
+    (λ c. let e = entered c in omega (arith, e .loop-test .taken, start e .good))
+    (λ c. omega (arith, entered c .loop-test .taken))
     loop-again
     (λ c. search needs)
     (λ c. c .before .loop .inv .slots-length)

@@ -6,23 +6,23 @@ use mathlib.Core.List.{List}
 use lib.ListN.{length, getD, take}
 use lib.Seq.{length-take-le}
 use borrow.Author.Needs.{needs}
-use Rattle.image.specs.Image.{Entry, headSize, backIn, backSizeOf, backOffset, entriesEnd, imageSize}
-use Rattle.image.specs.PackedNames.{beginOf}
+use Rattle.image.specs.Image.{Entry, headSize, backIn, backSizeOf, backOffset, imageSize}
 use Rattle.image.proofs.NameEnds.{begin-later}
 use Rattle.serialize.proofs.Cleared.{Numbers, size-is, back-offset-is}
 use Rattle.serialize.proofs.WriteSteps.{backOffset-le}
 use Rattle.build.specs.steps.Stores.{listEntries}
 use Rattle.build.proofs.Needed.{sum-small}
-use Rattle.build.proofs.WrittenList.{names-short, Turn, small, within, as-many, end-is, back-of-all, numbers, turn-first, turn-room, turn-step, turn-last}
+use Rattle.build.proofs.WrittenList.{Turn, small, within, as-many, end-is, back-of-all, numbers, turn-first}
+use Rattle.build.proofs.WrittenList.{turn-room, turn-step, turn-last, length-back}
 use Rattle.build.proofs.stored.write_list.Statement.{statement}
 use Rattle.build.proofs.stored.write_list.Tie as tie
 
 abbrev Inv-loop : tie.InvT-loop
-Inv-loop mode counts hashes buf₀ bytes ends ids scratch n entries end back size back-at places₀ at₀ i₀ buf places at i =
+Inv-loop mode counts hashes buf₀ bytes ends ids scratch stop n entries end back size back-at places₀ at₀ i₀ buf places at i =
     Turn mode buf₀ bytes ends ids buf places at i
 
 abbrev μ-loop : tie.MeasureT-loop
-μ-loop mode counts hashes buf₀ bytes ends ids scratch n entries end back size back-at places₀ at₀ i₀ buf places at i = length ends - i
+μ-loop mode counts hashes buf₀ bytes ends ids scratch stop n entries end back size back-at places₀ at₀ i₀ buf places at i = length ends - i
 
 -- ---- places in the code, each from a later one
 
@@ -45,10 +45,10 @@ abbrev entered : tie.After-nth-name Inv-loop μ-loop → tie.In-loop Inv-loop μ
 entered c = c .before
 
 abbrev named : tie.After-store Inv-loop μ-loop → tie.After-nth-name Inv-loop μ-loop
-named c = c .before .before .before
+named c = c .before .before .before .before
 
 abbrev stored : tie.After-partition-entry Inv-loop μ-loop → tie.After-store Inv-loop μ-loop
-stored c = c .before .before .before .before .before .before
+stored c = c .before .before .before .before .before
 
 -- ---- what is known at them
 
@@ -71,8 +71,8 @@ backs c =
     c .before .before .back-in .ensures ∙ ap (backIn (s .args .mode)) (counted c .back-of .ensures .is) ∙ back-of-all (s .pre) (words (counted c))
 
 known : (c : tie.After-back-offset Inv-loop μ-loop) → let s = start (counted c) in let ends = s .args .ends .now in
-    Numbers (s .args .mode) (headSize + 9 * length ends + getD ends (length ends - 1) 0) (length ends) (c .before .before .back-in .result) (s .args .counts .now)
-    (s .args .buf .now) (all s)
+    Numbers (s .args .mode) (headSize + 9 * length ends + getD ends (length ends - 1) 0) (length ends) (c .before .before .back-in .result)
+    (s .args .counts .now) (s .args .buf .now) (all s)
 known c =
     let s = start (counted c) in
     let w = words (counted c) in
@@ -92,8 +92,8 @@ offset-word : (c : tie.After-back-offset Inv-loop μ-loop) → c .back-offset .r
 offset-word c =
     let s = start (counted c) in
     let n = length (s .args .ends .now) in
-    omega
-    (arith, c .back-offset .ensures, backOffset-le (s .args .mode) (headSize + 9 * n + getD (s .args .ends .now) (n - 1) 0) n (c .before .before .back-in .result), sum s)
+    let end = headSize + 9 * n + getD (s .args .ends .now) (n - 1) 0 in
+    omega (arith, c .back-offset .ensures, backOffset-le (s .args .mode) end n (c .before .before .back-in .result), sum s)
 
 -- the name of a turn, and where its entry ends
 turn : (c : tie.After-nth-name Inv-loop μ-loop) → let l = entered c .before in l .loop .at + (length (c .nth-name .result .now) + 9) ≤ 4294967295
@@ -127,13 +127,19 @@ loop-holds c =
     let w = words (counted t) in
     turn-first (s .pre) w _ (end-is (s .pre) w) (b .begin-image .ensures .begins)
 
--- the buffer is as long as it was
+-- the buffer is as long as it was, and the image lies in it
 kept : (c : tie.At-loop Inv-loop μ-loop) → length (c .loop .buf) ≡ length (from c .args .buf .now)
 kept c = c .loop .inv .long ∙ begun c .begin-image .kept .1 .1 .1 .1 .1 .0
 
+inside : (c : tie.At-loop Inv-loop μ-loop) → told (begun c) .before .finished-size .result ≤ length (c .loop .buf)
+inside c = let t = told (begun c) in omega (arith, sized t, within (from c .pre) (words (counted t)), kept c)
+
+image-long : (c : tie.At-loop Inv-loop μ-loop) → let n = told (begun c) .before .finished-size .result in length (take n (c .loop .buf)) ≡ n
+image-long c = length-take-le _ (c .loop .buf) (inside c)
+
 store-requires : tie.Need-store-requires Inv-loop μ-loop
 store-requires c κs =
-    let n = c .before .before in
+    let n = c .before .before .before in
     let l = entered n .before in
     let w = words (counted (told (begun l))) in
     record {
@@ -161,21 +167,32 @@ fill-all-requires c κs =
     record {
       low = omega arith;
       within = omega (arith, sized t, end-is (s .pre) w);
-      inside = omega (arith, sized t, within (s .pre) w, kept l);
+      inside = omega (arith, image-long l);
       size-word = omega (arith, sized t, small (s .pre) w);
       back-word = offset-word t;
     }
 
+-- the loop, where the tables are filled
+abbrev looped : tie.After-fill-all Inv-loop μ-loop → tie.At-loop Inv-loop μ-loop
+looped c = c .before .before .before .before
+
+filled-long : (c : tie.After-fill-all Inv-loop μ-loop) → length (c .fill-all .last .1 .1 .0) ≡ told (begun (looped c)) .before .finished-size .result
+filled-long c = c .fill-all .kept .1 .1 .0 ∙ image-long (looped c)
+
+same-length : tie.Need-same-length Inv-loop μ-loop
+same-length c =
+    let f = c .before .before .before .before in
+    length-back (f .fill-all .last .1 .1 .0) (looped f .loop .buf) _ (filled-long f) (inside (looped f)) ∙ kept (looped f)
+
 returns : tie.Need-returns Inv-loop μ-loop
 returns c =
     let f = c .before .before .before .before in
-    let l = f .before .before .before .before in
+    let l = looped f in
     let t = told (begun l) in
     let s = from l in
     let w = words (counted t) in
-    let made = turn-last (s .pre) w (l .loop .inv) (omega (arith, f .before .before .before .loop-test .left)) (offset t) (end-is (s .pre) w) (as-many (s .pre) w) (backs t) (sized t)
-    (begun l .begin-image .ensures .image) (f .fill-all .ensures) in
-    record { sized = sized t; leaves = made .is; distinct = made .distinct }
+    turn-last (s .pre) w (l .loop .inv) (omega (arith, f .before .before .before .loop-test .left)) (offset t) (end-is (s .pre) w) (as-many (s .pre) w)
+    (backs t) (sized t) (begun l .begin-image .ensures .image) (f .fill-all .ensures) (filled-long f)
 
 pub write-list-spec : {M : Type 1} → statement M
 write-list-spec =
@@ -203,18 +220,20 @@ write-list-spec =
     (λ c κs. record { inside = c .loop-test .taken; ends-rise = from (c .before) .pre .list .packed })
     (λ c. search needs)
     (λ c. omega (arith, c .before .before .loop-test .taken, from (c .before .before .before) .pre .list .ids-long))
+    (λ c. search needs)
+    (λ c. omega (arith, c .before .before .before .loop-test .taken, from (c .before .before .before .before) .pre .list .refusals-long))
     store-requires
     (λ c. omega (arith, turn (named (c .before .before .before .before))))
-    (λ c. search needs)
-    (λ c. let n = named (c .before .before .before .before .before) in omega (arith, entered n .loop-test .taken, from (entered n .before) .pre .list .refusals-long))
-    (λ c κs. let n = named (c .before .before .before .before .before) in offset-word (told (begun (entered n .before))))
+    (λ c κs. let n = named (c .before .before .before .before) in offset-word (told (begun (entered n .before))))
     (λ c. omega (arith, turn (named (stored (c .before .before)))))
     (λ c. omega (arith, turn (named (stored (c .before .before)))))
     (λ c. search needs)
     (λ c. omega (arith, entered (named (stored (c .before .before))) .loop-test .taken))
     loop-again
+    (λ c. inside (c .before))
+    (λ c. sym (image-long (c .before .before)))
     fill-all-requires
-    (λ c. let l = c .before .before .before .before .before .before .before .before in omega (arith, sized (told (begun l)), small (from l .pre) (words (counted (told (begun l))))))
-    (λ c. c .before .before .before .before .fill-all .kept .1 .1 .0 ∙ kept (c .before .before .before .before .before .before .before .before))
+    (λ c. let l = looped (c .before .before .before .before) in omega (arith, sized (told (begun l)), small (from l .pre) (words (counted (told (begun l))))))
+    same-length
     (λ c. search needs)
     returns)

@@ -23,21 +23,6 @@ Inv-loop counts entries none₀ t₀ none t = Inv counts entries none t
 abbrev μ-loop : tie.MeasureT-loop
 μ-loop counts entries none₀ t₀ none t = 256 - t
 
-loop-holds : tie.Need-loop-holds Inv-loop μ-loop
-loop-holds c = record { inside = omega arith; left = refl }
-
-mul-none : tie.Need-mul-none Inv-loop μ-loop
-mul-none c = omega arith
-
-element-copy-out-none : tie.Need-element-copy-out-none Inv-loop μ-loop
-element-copy-out-none c = omega arith
-
-add-t : tie.Need-add-t Inv-loop μ-loop
-add-t c = omega arith
-
-loop-less : tie.Need-loop-less Inv-loop μ-loop
-loop-less c = omega arith
-
 loop-again : tie.Need-loop-again Inv-loop μ-loop
 loop-again c =
     let a = c .before .before .before .args in
@@ -60,10 +45,10 @@ each-at-most-spec =
     (tie.spec
     Inv-loop
     μ-loop
-    loop-holds
-    mul-none
-    element-copy-out-none
-    add-t
-    loop-less
+    (λ c. record { inside = omega arith; left = refl })
+    (λ c. omega arith)
+    (λ c. omega arith)
+    (λ c. omega arith)
+    (λ c. omega arith)
     loop-again
     returns)

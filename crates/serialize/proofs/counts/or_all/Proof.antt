@@ -18,21 +18,6 @@ Inv-loop counts all₀ t₀ all t = Inv counts all t
 abbrev μ-loop : tie.MeasureT-loop
 μ-loop counts all₀ t₀ all t = 256 - t
 
-loop-holds : tie.Need-loop-holds Inv-loop μ-loop
-loop-holds c = record { inside = omega arith; bound = λ i k. absurd (omega (arith, k)) }
-
-mul-all : tie.Need-mul-all Inv-loop μ-loop
-mul-all c = omega arith
-
-element-copy-out-all : tie.Need-element-copy-out-all Inv-loop μ-loop
-element-copy-out-all c = omega arith
-
-add-t : tie.Need-add-t Inv-loop μ-loop
-add-t c = omega arith
-
-loop-less : tie.Need-loop-less Inv-loop μ-loop
-loop-less c = omega arith
-
 loop-again : tie.Need-loop-again Inv-loop μ-loop
 loop-again c =
     let i = c .before .before .loop in
@@ -47,10 +32,10 @@ or-all-spec =
     (tie.spec
     Inv-loop
     μ-loop
-    loop-holds
-    mul-all
-    element-copy-out-all
-    add-t
-    loop-less
+    (λ c. record { inside = omega arith; bound = λ i k. absurd (omega (arith, k)) })
+    (λ c. omega arith)
+    (λ c. omega arith)
+    (λ c. omega arith)
+    (λ c. omega arith)
     loop-again
     returns)

@@ -22,18 +22,6 @@ Inv-loop buf₀ from to i₀ buf i = Clearing buf₀ from to buf i
 abbrev μ-loop : tie.MeasureT-loop
 μ-loop buf₀ from to i₀ buf i = to - i
 
-loop-holds : tie.Need-loop-holds Inv-loop μ-loop
-loop-holds c = record { inside = c .pre .order; long = refl; leaves = refl }
-
-slice-write-buf : tie.Need-slice-write-buf Inv-loop μ-loop
-slice-write-buf c = omega arith
-
-add-i : tie.Need-add-i Inv-loop μ-loop
-add-i c = omega arith
-
-loop-less : tie.Need-loop-less Inv-loop μ-loop
-loop-less c = omega arith
-
 loop-again : tie.Need-loop-again Inv-loop μ-loop
 loop-again c =
     let l = c .before .loop in
@@ -52,10 +40,10 @@ clear-bytes-spec =
     (tie.spec
     Inv-loop
     μ-loop
-    loop-holds
-    slice-write-buf
-    add-i
-    loop-less
+    (λ c. record { inside = c .pre .order; long = refl; leaves = refl })
+    (λ c. omega arith)
+    (λ c. omega arith)
+    (λ c. omega arith)
     loop-again
     (λ c. search needs)
     returns)

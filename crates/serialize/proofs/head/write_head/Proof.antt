@@ -13,7 +13,8 @@ returns c =
     let second = third .before .before .before .before in
     let first = second .before .before .before .before in
     let a = first .before .before .before .args in
-    head-stored (a .buf .now) (a .size) (a .flag) (a .back) (a .back-offset) (first .store-word-clipped .ensures) (second .store-word-clipped2 .ensures) (third .store-word-clipped3 .ensures)
+    head-stored (a .buf .now) (a .size) (a .flag) (a .back) (a .back-offset) (first .store-word-clipped .ensures)
+    (second .store-word-clipped2 .ensures) (third .store-word-clipped3 .ensures)
     (fourth .store-word-clipped4 .ensures) (fifth .store-word-clipped5 .ensures) (sixth .store-word-clipped6 .ensures)
 
 pub write-head-spec : {M : Type 1} → statement M

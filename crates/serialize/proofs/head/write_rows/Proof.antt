@@ -46,17 +46,8 @@ second c = c .before .before .before .before
 
 -- ---- the needs
 
-loop-holds : tie.Need-loop-holds Inv-loop μ-loop
-loop-holds c = record { most = omega arith; long = refl; rows = refl; begins = refl; near = omega arith }
-
 inside : (c : tie.In-loop Inv-loop μ-loop) → 32 + 8 * c .before .loop .t ≤ length (c .before .loop .buf)
 inside c = omega (arith, c .loop-test .taken, start (c .before) .pre, c .before .loop .inv .long)
-
-store-word-requires : tie.Need-store-word-requires Inv-loop μ-loop
-store-word-requires c κs = omega (arith, inside (entered (counted c)))
-
-store-word-requires-2 : tie.Need-store-word-requires-2 Inv-loop μ-loop
-store-word-requires-2 c κs = omega (arith, inside (entered (counted (first c))), c .before .before .before .before .store-word .kept .0)
 
 add-o : tie.Need-add-o Inv-loop μ-loop
 add-o c =
@@ -72,15 +63,16 @@ loop-again c =
     let i = l .loop in
     let less = entered w .loop-test .taken in
     let counts = start l .args .counts .now in
+    let is = w .as-u64 .ensures .is in
     let stored = two .before .before .before .before in
     let again = c .before .before .before in
     record {
       most = omega (arith, less);
       long = again .store-word2 .kept .0 ∙ stored .store-word .kept .0 ∙ i .inv .long;
       rows =
-          rows-step counts (i .buf) _ (i .o) (i .t) 256 less (w .as-u64 .ensures .is) (one .before .offset-or-zero .ensures) (one .low .ensures) (two .low2 .ensures)
+          rows-step counts (i .buf) _ (i .o) (i .t) 256 less is (one .before .offset-or-zero .ensures) (one .low .ensures) (two .low2 .ensures)
           (stored .store-word .ensures) (again .store-word2 .ensures) (i .inv .rows);
-      begins = table-offsets-step counts (i .places) _ (i .o) (i .t) 256 (c .low3 .result) (w .as-u64 .result) less (c .low3 .ensures) (w .as-u64 .ensures .is) (i .inv .begins);
+      begins = table-offsets-step counts (i .places) _ (i .o) (i .t) 256 (c .low3 .result) (w .as-u64 .result) less (c .low3 .ensures) is (i .inv .begins);
       near = omega (arith, w .as-u64 .ensures .small, i .inv .near);
     }
 
@@ -100,7 +92,7 @@ write-rows-spec =
     (tie.spec
     Inv-loop
     μ-loop
-    loop-holds
+    (λ c. record { most = omega arith; long = refl; rows = refl; begins = refl; near = omega arith })
     (λ c. omega arith)
     (λ c. omega arith)
     (λ c κs. search needs)
@@ -108,12 +100,12 @@ write-rows-spec =
     (λ c. omega arith)
     (λ c κs. search needs)
     (λ c κs. search needs)
-    store-word-requires
+    (λ c κs. omega (arith, inside (entered (counted c))))
     (λ c. omega arith)
     (λ c. omega arith)
     (λ c. omega (arith, counted (c .before .before .before .before) .as-u64 .ensures .small))
     (λ c κs. search needs)
-    store-word-requires-2
+    (λ c κs. omega (arith, inside (entered (counted (first c))), c .before .before .before .before .store-word .kept .0))
     (λ c κs. search needs)
     (λ c. omega arith)
     (λ c. omega arith)

@@ -13,7 +13,8 @@ unfolding entryHash
 returns c =
     let name = c .before .name-at in
     let s = c .before .before .before in
-    c .hash-or-zero .ensures ∙ hash-or-zero-short (name .result .now) (omega (arith, name .ensures .size, s .pre .length-word, s .pre .some)) ∙ ap hashOf (name .ensures .is)
+    c .hash-or-zero .ensures ∙ hash-or-zero-short (name .result .now) (omega (arith, name .ensures .size, s .pre .length-word, s .pre .some))
+    ∙ ap hashOf (name .ensures .is)
 
 pub entry-hash-spec : {M : Type 1} → statement M
 entry-hash-spec = tie.close (tie.spec (λ c κs. search needs) (λ c κs. search needs) returns)

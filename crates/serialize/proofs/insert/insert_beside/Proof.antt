@@ -13,12 +13,4 @@ returns c =
     (c .before .before .store-pair .ensures) (omega arith) (omega arith)
 
 pub insert-beside-spec : {M : Type 1} → statement M
-insert-beside-spec =
-    tie.close
-    (tie.spec
-    (λ c κs. search needs)
-    (λ c. search needs)
-    (λ c. search needs)
-    (λ c κs. search needs)
-    (λ c. search needs)
-    returns)
+insert-beside-spec = tie.close (tie.spec (λ c κs. search needs) (λ c. search needs) (λ c. search needs) (λ c κs. search needs) (λ c. search needs) returns)

@@ -14,9 +14,6 @@ returns c =
     row-none (a .buf .now) (a .h) (a .at) (c .before .before .before .before .before .table-at .ensures .is)
     (c .before .before .before .bucket-number .ensures .is) (c .before .holds-table .ensures) (a .end) (not-true _ (c .if1 .taken))
 
-insert-pair-requires : tie.Need-insert-pair-requires
-insert-pair-requires c κs = table-in (c .before .before .holds-table .ensures) (not-false _ (c .before .if1 .left)) (start (c .before .before) .pre)
-
 returns-2 : tie.Need-returns-2
 returns-2 c =
     let left = c .before .before .before .before in
@@ -34,6 +31,6 @@ insert-by-row-spec =
     (λ c κs. search needs)
     (λ c. search needs)
     returns
-    insert-pair-requires
+    (λ c κs. table-in (c .before .before .holds-table .ensures) (not-false _ (c .before .if1 .left)) (start (c .before .before) .pre))
     (λ c. search needs)
     returns-2)

@@ -1,6 +1,6 @@
 -- `serialize::insert::probe` meets its contract. The loop's invariant: the probe sequence that is left tells what the whole one tells. Assumes nothing.
 use native.Mathlib.Omega.{arith}
-use mathlib.Core.Path.{_≡_, sym, ap, subst, _∙_}
+use mathlib.Core.Path.{_≡_, sym, subst, _∙_}
 use mathlib.Core.Logic.{⊎-elim}
 use Prim.Native.Nat.{ℕ, _+_, _*_, _≤_}
 use mathlib.Core.Bool.{false}
@@ -40,18 +40,6 @@ loop-holds c =
 inside : (c : tie.At-loop Inv-loop μ-loop) → let a = start c .args in a .o + 8 * c .loop .k + 8 ≤ length (a .buf .now)
 inside c = omega (arith, start c .pre .inside, c .loop .inv .inside)
 
-mul-word : tie.Need-mul-word Inv-loop μ-loop
-mul-word c = omega (arith, inside (c .before))
-
-add-word : tie.Need-add-word Inv-loop μ-loop
-add-word c = omega (arith, inside (c .before))
-
-add-word-2 : tie.Need-add-word-2 Inv-loop μ-loop
-add-word-2 c = omega (arith, inside (c .before))
-
-word-requires : tie.Need-word-requires Inv-loop μ-loop
-word-requires c κs = omega (arith, inside (c .before))
-
 returns : tie.Need-returns Inv-loop μ-loop
 returns c =
     let test = c .before .before in
@@ -63,28 +51,11 @@ returns c =
       unmet = λ z. none-matches (l .inv) (test .loop-test .taken) empty;
     }
 
-mul-word-2 : tie.Need-mul-word-2 Inv-loop μ-loop
-mul-word-2 c = omega (arith, inside (read c))
-
-add-word-3 : tie.Need-add-word-3 Inv-loop μ-loop
-add-word-3 c = omega (arith, inside (read c))
-
-word-requires-2 : tie.Need-word-requires-2 Inv-loop μ-loop
-word-requires-2 c κs = omega (arith, inside (read c))
-
-slice-aggregate-same-names : tie.Need-slice-aggregate-same-names Inv-loop μ-loop
-slice-aggregate-same-names c =
-    let at-loop = c .before .before .before .before .before .before in
-    simp length-take (omega (arith, start at-loop .pre .front))
-
 returns-2 : tie.Need-returns-2 Inv-loop μ-loop
 returns-2 c =
     let begun = c .before .before .before .before .before .before .before .before .before .before in
     let a = begun .before .before .args in
     restarted (a .buf .now) (a .end) (a .o) (a .n) (a .h) (a .at) _ _ (begun .start .ensures) (c .first-empty .ensures)
-
-next-requires : tie.Need-next-requires Inv-loop μ-loop
-next-requires c κs = read (c .before .before) .loop .inv .inside
 
 loop-again : tie.Need-loop-again Inv-loop μ-loop
 loop-again c =
@@ -118,19 +89,19 @@ probe-spec =
     μ-loop
     (λ c κs. search needs)
     loop-holds
-    mul-word
-    add-word
-    add-word-2
-    word-requires
+    (λ c. omega (arith, inside (c .before)))
+    (λ c. omega (arith, inside (c .before)))
+    (λ c. omega (arith, inside (c .before)))
+    (λ c κs. omega (arith, inside (c .before)))
     returns
-    mul-word-2
-    add-word-3
-    word-requires-2
-    slice-aggregate-same-names
+    (λ c. omega (arith, inside (read c)))
+    (λ c. omega (arith, inside (read c)))
+    (λ c κs. omega (arith, inside (read c)))
+    (λ c. let at-loop = c .before .before .before .before .before .before in simp length-take (omega (arith, start at-loop .pre .front)))
     (λ c κs. search needs)
     (λ c κs. search needs)
     returns-2
-    next-requires
+    (λ c κs. read (c .before .before) .loop .inv .inside)
     (λ c. search needs)
     (λ c. search needs)
     loop-again

@@ -41,9 +41,6 @@ entry c =
 
 -- ---- the needs
 
-loop-holds : tie.Need-loop-holds Inv-loop μ-loop
-loop-holds c = record { inside = c .before .pre .low; long = refl; leaves = refl }
-
 returns : tie.Need-returns Inv-loop μ-loop
 returns c =
     let e = c .before .before .before in
@@ -61,10 +58,8 @@ loop-again c =
     let done = p .partition-entry in
     let h = p .before .before .before in
     partitioned-step (entered e .before .loop .inv) (entered e .loop-test .taken) (e .before .whole-length .ensures .is) (e .if1 .left)
-    (entry e .0) (done .last .1 .1 .1 .0) (done .last .1 .1 .0) (done .kept .1 .1 .0) (h .before .before .word-or-zero .ensures) (h .entry-hash .ensures) (done .ensures)
-
-returns-2 : tie.Need-returns-2 Inv-loop μ-loop
-returns-2 c = partitioned-all (c .before .loop .inv) (omega (arith, c .loop-test .left))
+    (entry e .0) (done .last .1 .1 .1 .0) (done .last .1 .1 .0) (done .kept .1 .1 .0) (h .before .before .word-or-zero .ensures) (h .entry-hash .ensures)
+    (done .ensures)
 
 pub partition-entries-spec : {M : Type 1} → statement M
 partition-entries-spec =
@@ -72,7 +67,7 @@ partition-entries-spec =
     (tie.spec
     Inv-loop
     μ-loop
-    loop-holds
+    (λ c. record { inside = c .before .pre .low; long = refl; leaves = refl })
     (λ c κs. search needs)
     (λ c. search needs)
     returns
@@ -86,4 +81,4 @@ partition-entries-spec =
     (λ c. omega (arith, entered (read (c .before .before)) .loop-test .taken))
     loop-again
     (λ c. search needs)
-    returns-2)
+    (λ c. partitioned-all (c .before .loop .inv) (omega (arith, c .loop-test .left))))

@@ -13,20 +13,20 @@ fill-tables-requires : tie.Need-fill-tables-requires
 fill-tables-requires c κs =
     let told = c .before .before .before in
     let s = told .before .before .before in
+    let few = sym (told .none-above .ensures) ∙ c .before .before .if1 .taken in
     record {
       end-word = omega (arith, s .pre .within, s .pre .size-word);
-      copies = λ t h.
-          omega (arith, length-replicate {A = ℕ} 64 0, each-within (s .args .counts .now) 32 (sym (told .none-above .ensures) ∙ c .before .before .if1 .taken) t h);
+      copies = λ t h. omega (arith, length-replicate {A = ℕ} 64 0, each-within (s .args .counts .now) 32 few t h);
     }
 
 fill-tables-requires-2 : tie.Need-fill-tables-requires-2
 fill-tables-requires-2 c κs =
     let told = c .before .before .before in
     let s = told .before .before .before .before .before in
+    let few = sym (told .none-above2 .ensures) ∙ c .before .before .if2 .taken in
     record {
       end-word = omega (arith, s .pre .within, s .pre .size-word);
-      copies = λ t h.
-          omega (arith, length-replicate {A = ℕ} 9216 0, each-within (s .args .counts .now) 4608 (sym (told .none-above2 .ensures) ∙ c .before .before .if2 .taken) t h);
+      copies = λ t h. omega (arith, length-replicate {A = ℕ} 9216 0, each-within (s .args .counts .now) 4608 few t h);
     }
 
 fill-tables-requires-3 : tie.Need-fill-tables-requires-3

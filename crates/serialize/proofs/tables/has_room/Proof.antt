@@ -17,11 +17,4 @@ returns-2 c =
     λ yes t h. omega (arith, each-within (a .counts .now) _ (sym (c .none-above2 .ensures) ∙ yes) t h)
 
 pub has-room-spec : {M : Type 1} → statement M
-has-room-spec =
-    tie.close
-    (tie.spec
-    (λ c κs. search needs)
-    returns
-    (λ c. search needs)
-    (λ c κs. search needs)
-    returns-2)
+has-room-spec = tie.close (tie.spec (λ c κs. search needs) returns (λ c. search needs) (λ c κs. search needs) returns-2)

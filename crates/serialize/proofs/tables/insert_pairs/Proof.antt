@@ -3,20 +3,22 @@ use native.Mathlib.Omega.{arith}
 use borrow.Author.Needs.{needs}
 use Prim.Native.Nat.{_-_}
 use mathlib.Core.Path.{refl, _∙_}
+use Rattle.serialize.proofs.Insertion.{not-met, stopped}
 use Rattle.serialize.proofs.TableFill.{Filling, filling-start, filling-step, filling-end}
 use Rattle.serialize.proofs.tables.insert_pairs.Statement.{statement}
 use Rattle.serialize.proofs.tables.insert_pairs.Tie as tie
 
 abbrev Inv-loop : tie.InvT-loop
-Inv-loop buf₀ end o c pairs met₀ i₀ buf met i = Filling buf₀ pairs end o c i buf met
+Inv-loop buf₀ end o c pairs stop met₀ i₀ buf met i = Filling buf₀ pairs end o c i buf met
 
 abbrev μ-loop : tie.MeasureT-loop
-μ-loop buf₀ end o c pairs met₀ i₀ buf met i = c - i
+μ-loop buf₀ end o c pairs stop met₀ i₀ buf met i = c - i
 
 loop-holds : tie.Need-loop-holds Inv-loop μ-loop
 loop-holds c =
     let s = c .before .before .before .before .before .before in
-    filling-start (s .args .buf .now) (s .args .o) (s .args .c) (s .pre .inside) _ (c .before .before .clear-bytes .ensures) (s .args .end) (s .args .pairs .now)
+    let a = s .args in
+    filling-start (a .buf .now) (a .o) (a .c) (s .pre .inside) _ (c .before .before .clear-bytes .ensures) (a .end) (a .pairs .now)
 
 -- the table lies in the cleared buffer
 abbrev cleared : tie.At-loop Inv-loop μ-loop → tie.After-clear-bytes Inv-loop μ-loop
@@ -38,16 +40,24 @@ insert-pair-requires c κs =
 
 loop-again : tie.Need-loop-again Inv-loop μ-loop
 loop-again c =
-    let l = c .before .before .before .before .before .before .before in
+    let test = c .before .before .before .before .before .before .before in
+    let l = test .before in
     let pre = start l .pre in
-    filling-step (l .loop .inv) (pre .behind) (omega (arith, pre .inside, cleared l .clear-bytes .kept .0)) (c .before .before .before .before .before .before .loop-test .taken) _ _
-    refl refl (c .before .before .insert-pair .kept .0) (c .before .before .insert-pair .ensures)
+    filling-step (l .loop .inv) (pre .behind) (omega (arith, pre .inside, cleared l .clear-bytes .kept .0)) (test .loop-test .taken) _ _ refl refl
+    (c .before .before .before .insert-pair .kept .0) (c .before .before .before .insert-pair .ensures)
 
 returns : tie.Need-returns Inv-loop μ-loop
 returns c =
-    let clear = cleared (c .before) in
+    let done = c .before .before .before in
+    let s = start (done .before .before .before .before .before) in
+    record { leaves = stopped (s .args .stop) (done .insert-pair .result) (c .if1 .taken); apart = not-met }
+
+returns-2 : tie.Need-returns-2 Inv-loop μ-loop
+returns-2 c =
     let s = start (c .before) in
-    filling-end (s .args .buf .now) (s .args .o) (s .args .c) (s .pre .inside) _ (clear .clear-bytes .ensures) (s .pre .behind) (c .before .loop .inv) (c .loop-test .left)
+    let a = s .args in
+    filling-end (a .buf .now) (a .o) (a .c) (s .pre .inside) _ (cleared (c .before) .clear-bytes .ensures) (s .pre .behind) (c .before .loop .inv)
+    (c .loop-test .left) (a .stop)
 
 pub insert-pairs-spec : {M : Type 1} → statement M
 insert-pairs-spec =
@@ -69,7 +79,9 @@ insert-pairs-spec =
     (λ c. search needs)
     insert-pair-requires
     (λ c. search needs)
+    returns
+    (λ c. search needs)
     (λ c. search needs)
     loop-again
     (λ c. search needs)
-    returns)
+    returns-2)

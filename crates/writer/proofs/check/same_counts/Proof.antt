@@ -23,27 +23,6 @@ Inv-loop a b same₀ t₀ same t = Inv a b same t
 abbrev μ-loop : tie.MeasureT-loop
 μ-loop a b same₀ t₀ same t = 256 - t
 
-loop-holds : tie.Need-loop-holds Inv-loop μ-loop
-loop-holds c = record { inside = omega arith; left = refl }
-
-mul-same : tie.Need-mul-same Inv-loop μ-loop
-mul-same c = omega arith
-
-element-copy-out-same : tie.Need-element-copy-out-same Inv-loop μ-loop
-element-copy-out-same c = omega arith
-
-mul-same-2 : tie.Need-mul-same-2 Inv-loop μ-loop
-mul-same-2 c = omega arith
-
-element-copy-out-same-2 : tie.Need-element-copy-out-same-2 Inv-loop μ-loop
-element-copy-out-same-2 c = omega arith
-
-add-t : tie.Need-add-t Inv-loop μ-loop
-add-t c = omega arith
-
-loop-less : tie.Need-loop-less Inv-loop μ-loop
-loop-less c = omega arith
-
 loop-again : tie.Need-loop-again Inv-loop μ-loop
 loop-again c =
     let a = c .before .before .before .before .args in
@@ -66,12 +45,12 @@ same-counts-spec =
     (tie.spec
     Inv-loop
     μ-loop
-    loop-holds
-    mul-same
-    element-copy-out-same
-    mul-same-2
-    element-copy-out-same-2
-    add-t
-    loop-less
+    (λ c. record { inside = omega arith; left = refl })
+    (λ c. omega arith)
+    (λ c. omega arith)
+    (λ c. omega arith)
+    (λ c. omega arith)
+    (λ c. omega arith)
+    (λ c. omega arith)
     loop-again
     returns)

@@ -10,9 +10,6 @@ use borrow.Author.Needs.{needs}
 use Rattle.writer.proofs.check.walk_refusal.Statement.{statement}
 use Rattle.writer.proofs.check.walk_refusal.Tie as tie
 
-walk-requires : tie.Need-walk-requires
-walk-requires c κs = let s = c .before .before .before in record { head = s .pre .low; inside = s .pre .high; zero = zeros 256 }
-
 -- what the walk found, where the entries are whole
 abbrev walked : tie.Else1 → tie.After-walk
 walked c = c .before .before
@@ -55,22 +52,16 @@ by-match c m is =
     _ (s .before .same-counts .ensures) (not-false _ (s .if2 .left)) _ _ (found .back-is (whole e)) (c .before .back-in .ensures) (c .if3 .left)
     m (is ∙ found .contains-is (whole e))
 
-returns-4 : tie.Need-returns-4
-returns-4 c = by-match (c .before) true (sym (c .if4 .taken))
-
-returns-5 : tie.Need-returns-5
-returns-5 c = by-match (c .before) false (sym (c .if4 .left))
-
 pub walk-refusal-spec : {M : Type 1} → statement M
 walk-refusal-spec =
     tie.close
     (tie.spec
-    walk-requires
+    (λ c κs. let s = c .before .before .before in record { head = s .pre .low; inside = s .pre .high; zero = zeros 256 })
     returns
     (λ c κs. search needs)
     returns-2
     (λ c. search needs)
     (λ c κs. search needs)
     returns-3
-    returns-4
-    returns-5)
+    (λ c. by-match (c .before) true (sym (c .if4 .taken)))
+    (λ c. by-match (c .before) false (sym (c .if4 .left))))

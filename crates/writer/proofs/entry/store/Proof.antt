@@ -19,7 +19,8 @@ returns : tie.Need-returns
 returns c =
     let done = c .before .before in
     let a = first done .before .before .before .before .args in
-    stored-parts (a .name .now) (a .buf .now) _ _ _ (a .at) (a .id) (first done .store-word .ensures) (done .before .before .before .before .store-word2 .ensures) (done .store-bytes .ensures)
+    stored-parts (a .name .now) (a .buf .now) _ _ _ (a .at) (a .id) (first done .store-word .ensures)
+    (done .before .before .before .before .store-word2 .ensures) (done .store-bytes .ensures)
 
 pub store-spec : {M : Type 1} → statement M
 store-spec =
