@@ -108,7 +108,7 @@
 
 /* The version of this header and of the archive that comes with it. cqdb_version_number gives that of the archive or the
    shared library that the program runs with. */
-#define CQDB_VERSION "0.3.0"
+#define CQDB_VERSION "0.4.0"
 
 #ifdef __cplusplus
 extern "C" {

@@ -1,2 +1,2 @@
 """The version, that of the repository."""
-__version__ = "0.3.0"
+__version__ = "0.4.0"

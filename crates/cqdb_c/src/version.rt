@@ -4,14 +4,14 @@ ghost use Rattle.cqdb_c.specs.Version.{versionNumber};
 
 const MAJOR: u32 = 0;
 
-const MINOR: u32 = 3;
+const MINOR: u32 = 4;
 
 const PATCH: u32 = 0;
 
 // The version as one number.
 #[no_mangle]
 pub extern "C" fn cqdb_version_number() -> u32
-    ensures { λ r. ⌜ r ≡ versionNumber 0 3 0 ⌝ }
+    ensures { λ r. ⌜ r ≡ versionNumber 0 4 0 ⌝ }
 {
     MAJOR * 65536 + MINOR * 256 + PATCH
 }
