@@ -1,7 +1,7 @@
 // Writing: all puts and the close, names of 9 bytes, into a slice of exactly the image's size. Neither side clears its slice
 // between the repetitions. Single puts and close are measured over 64 lists of 4,096 names in turn. Then what the check of the 256
 // counts costs by itself.
-use crate::archive::{self, Joined, Record};
+use crate::archive::{self, Packed, Record};
 use crate::names::Names;
 use crate::table::{self, best, least};
 use cqdb::CQDBWriter;
@@ -53,12 +53,12 @@ fn whole_list(n: usize, repetitions: usize) {
     let joined = names.concat().into_bytes();
     let ends: Vec<u64> = (1..=n as u64).map(|i| 9 * i).collect();
     let ids: Vec<u32> = (0..n as u32).collect();
-    let list = Joined { names: &joined, ends: &ends, ids: &ids };
-    let (mut refusals, mut work) = (vec![0; n], vec![0; 5 * n]);
+    let list = Packed { names: &joined, ends: &ends, ids: &ids };
+    let (mut refusals, mut scratch) = (vec![0; n], vec![0; 5 * n]);
     let size = image_size(n, 9);
     let (mut a, mut b) = (vec![0u8; size], vec![0u8; size]);
     let mut one_call = || {
-        let answer = archive::build(0, 0, black_box(&mut a), list, &mut refusals, &mut work);
+        let answer = archive::build(0, 0, black_box(&mut a), list, &mut refusals, &mut scratch);
         assert_eq!((answer.refusal, answer.size as usize, answer.accepted as usize), (0, size, n));
     };
     let times = best(repetitions, n, &mut one_call, || build_rust(&names, black_box(&mut b)));
@@ -74,8 +74,8 @@ fn refused_name(n: usize, repetitions: usize) {
     let ends: Vec<u64> = (1..=n as u64).map(|i| 9 * i).collect();
     let ids: Vec<u32> = (0..n as u32).collect();
     let buffers = || (vec![0; n], vec![0; 5 * n], vec![0u8; image_size(n, 9)]);
-    let one_call = |names: &[u8], accepted: usize, (refusals, work, buf): &mut (Vec<u32>, Vec<u32>, Vec<u8>)| {
-        let answer = archive::build(0, 0, black_box(buf), Joined { names, ends: &ends, ids: &ids }, refusals, work);
+    let one_call = |names: &[u8], accepted: usize, (refusals, scratch, buf): &mut (Vec<u32>, Vec<u32>, Vec<u8>)| {
+        let answer = archive::build(0, 0, black_box(buf), Packed { names, ends: &ends, ids: &ids }, refusals, scratch);
         assert_eq!((answer.refusal, answer.accepted as usize), (0, accepted));
     };
     let (mut a, mut b) = (buffers(), buffers());

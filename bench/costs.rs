@@ -9,7 +9,7 @@ mod costs_of_reading;
 #[allow(dead_code)]
 mod names;
 
-use archive::{Counts, Date, Joined, Pair, Record, Window};
+use archive::{Counts, Date, Packed, Pair, Record, Window};
 use names::Names;
 use std::collections::HashMap;
 use std::hint::black_box;
@@ -73,14 +73,14 @@ impl List {
         let mut list = List { n, names, ends, ids, image: vec![] };
         let needs = archive::build_needs(0, list.names.len(), &list.ids);
         let mut image = vec![0; needs.bytes as usize];
-        let answer = archive::build(0, 0, &mut image, list.joined(), &mut vec![0; n], &mut vec![0; 5 * n]);
+        let answer = archive::build(0, 0, &mut image, list.packed(), &mut vec![0; n], &mut vec![0; 5 * n]);
         assert_eq!((answer.accepted as usize, answer.size as usize), (n, image.len()));
         list.image = image;
         list
     }
 
-    pub fn joined(&self) -> Joined<'_> {
-        Joined { names: &self.names, ends: &self.ends, ids: &self.ids }
+    pub fn packed(&self) -> Packed<'_> {
+        Packed { names: &self.names, ends: &self.ends, ids: &self.ids }
     }
 
     pub fn each(&self) -> impl Iterator<Item = (&[u8], u32)> {
@@ -111,7 +111,7 @@ fn seasons(list: &List) -> Vec<Cost> {
 fn bundles(list: &List) -> Vec<Cost> {
     const IMAGES: usize = 256;
     let mut empty = vec![0; 2_072];
-    archive::build(0, 0, &mut empty, Joined { names: &[], ends: &[], ids: &[] }, &mut [], &mut []);
+    archive::build(0, 0, &mut empty, Packed { names: &[], ends: &[], ids: &[] }, &mut [], &mut []);
     let mut file = empty.repeat(IMAGES);
     let end = (IMAGES - 1) * empty.len();
     let open = one(|| assert_eq!(archive::bundle_open(black_box(&file), IMAGES as u64 - 1).num, 0)) / IMAGES as f64;

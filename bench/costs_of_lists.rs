@@ -1,5 +1,5 @@
 // What writing a list costs, and the checks of a whole image (bench/costs.rs).
-use crate::archive::{self, Counts, Joined, Record};
+use crate::archive::{self, Counts, Packed, Record};
 use crate::{least, least_of, Cost, List};
 use std::hint::black_box;
 use std::time::{Duration, Instant};
@@ -75,19 +75,19 @@ fn writing(list: &List) -> Vec<Cost> {
 fn built(list: &List) -> f64 {
     let (mut buf, mut refusals) = (vec![0; list.image.len()], vec![0; list.n]);
     least(list.n, || {
-        let answer = archive::build(0, 0, black_box(&mut buf), list.joined(), &mut refusals, &mut []);
+        let answer = archive::build(0, 0, black_box(&mut buf), list.packed(), &mut refusals, &mut []);
         assert_eq!(answer.accepted as usize, list.n);
     })
 }
 
 // The same with its last name equal to its first, which is refused, and with so many words of lent memory.
 fn built_refused(list: &List, words: usize) -> f64 {
-    let (mut buf, mut refusals, mut work) = (vec![0; list.image.len()], vec![0; list.n], vec![0; words]);
+    let (mut buf, mut refusals, mut scratch) = (vec![0; list.image.len()], vec![0; list.n], vec![0; words]);
     let size = list.names.len() / list.n;
     let names = [&list.names[..list.names.len() - size], &list.names[..size]].concat();
-    let repeated = Joined { names: &names, ..list.joined() };
+    let repeated = Packed { names: &names, ..list.packed() };
     least(list.n, || {
-        let answer = archive::build(0, 0, black_box(&mut buf), repeated, &mut refusals, &mut work);
+        let answer = archive::build(0, 0, black_box(&mut buf), repeated, &mut refusals, &mut scratch);
         assert_eq!(answer.accepted as usize, list.n - 1);
     })
 }

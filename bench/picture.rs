@@ -9,7 +9,7 @@ mod side;
 #[allow(dead_code)]
 mod table;
 
-use archive::Joined;
+use archive::Packed;
 use chart::{Panel, Series};
 use cqdb::{CQDBWriter, CQDB};
 use names::{drawn, mixed, Names};
@@ -43,7 +43,7 @@ fn measure(n: usize, repetitions: usize) -> Costs {
     let ids: Vec<u32> = (0..n as u32).collect();
     let size = 2072 + n * (29 + LENGTH);
     let (mut ours, mut rust) = (vec![0u8; size], vec![0u8; size]);
-    let (mut refusals, mut work) = (vec![0; n], vec![0; 5 * n]);
+    let (mut refusals, mut scratch) = (vec![0; n], vec![0; 5 * n]);
     let asked = Names::of(LENGTH, mixed(n).map(|i| put[i].to_string()));
     let questions = Questions { names: asked.all(), answers: mixed(n).map(|i| i as i64).collect() };
     let list = List { bytes: text.as_ptr(), length: LENGTH, n };
@@ -51,8 +51,8 @@ fn measure(n: usize, repetitions: usize) -> Costs {
     let mut costs = Costs { lookups: [None; 3], builds: [None; 3] };
     for _ in 0..repetitions {
         least(&mut costs.builds[0], time(n, || {
-            let joined = Joined { names: &text, ends: &ends, ids: &ids };
-            let answer = archive::build(0, 0, black_box(&mut ours), joined, &mut refusals, &mut work);
+            let packed = Packed { names: &text, ends: &ends, ids: &ids };
+            let answer = archive::build(0, 0, black_box(&mut ours), packed, &mut refusals, &mut scratch);
             assert_eq!((answer.refusal, answer.accepted as usize), (0, n));
         }));
         least(&mut costs.builds[1], time(n, || {

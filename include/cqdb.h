@@ -13,8 +13,9 @@
      cqdb_writer.
    - What a call writes (the buffer of cqdb_put, cqdb_put_indexed, cqdb_close, cqdb_sheet_write, cqdb_bundle_append, cqdb_load
      and cqdb_build, the counts, the writer, the slots of cqdb_index and cqdb_put_indexed, the output of cqdb_page and
-     cqdb_page_part, the answers of cqdb_round and cqdb_name_round, the refusals and the work of cqdb_build) overlaps nothing
-     else that the same call is lent: no name, no list, no buffer, no counts and no image. What a call only reads may overlap.
+     cqdb_page_part, the answers of cqdb_round and cqdb_name_round, the refusals and the scratch memory of cqdb_build) overlaps
+     nothing else that the same call is lent: no name, no list, no buffer, no counts and no image. What a call only reads may
+     overlap.
    - Nobody else writes to what is lent while the call runs. That goes for the bytes of a mapped file (mmap) too; see Files.
 
    Threads: any number of them may read one image at the same time, by all calls that take it as const. A buffer that is being
@@ -558,18 +559,18 @@ typedef struct {
 cqdb_build_answer cqdb_build_parts(uint32_t mode, uint32_t repeats, uint8_t *buf, size_t len,
                                    const uint8_t *names, size_t names_len, const uint64_t *ends, size_t n,
                                    const uint32_t *ids, size_t ids_len, uint32_t *refusals, size_t places,
-                                   uint32_t *work, size_t words);
+                                   uint32_t *scratch, size_t words);
 
 /* Begins a writer in the buffer, puts each of n names with the id at its place, in order, and closes: the image, the size and
    the number of each put's refusal, in refusals[0] to refusals[n - 1], are those of the single calls. The image is the first
-   `size` bytes of the buffer. Bytes from the size on that cqdb_build_needs gives for these names and ids keep their content; those
-   between the two sizes are unspecified. The names lie joined from names on; name i ends before byte ends[i], and begins where
+   `size` bytes of the buffer. Bytes from the size on that cqdb_build_needs gives for these names and ids keep their content;
+   those between the two sizes are unspecified. The names are packed, from names on; name i ends before byte ends[i], and begins where
    the one before ends, the first at 0. Refusals of the whole list, the first that applies: 2 for a mode or a choice of repeats
    that is neither 0 nor 1; 14 when an end is below the one before or above names_len; 15 when there are fewer than n places; 1
    for a buffer under 2,072 bytes. Then nothing is written.
 
-   The words at work are scratch memory, lent for speed: how many there are, and what they hold, changes no answer, and what they
-   hold afterwards is unspecified. What a list of n names costs, by the list and by the words:
+   The words at scratch are lent for speed: how many there are, and what they hold, changes no answer, and what they hold
+   afterwards is unspecified. What a list of n names costs, by the list and by the words:
    - The buffer has room for all names, none has a zero byte, and with repeats off all differ: linear, and no word is needed
      up to 4,608 names of one table, some 1,100,000 in all. The image is written straight into the buffer. With more names
      some words are needed, two for each name of the largest table, or else the tables are filled name by name: 1,500,000 names
@@ -584,8 +585,8 @@ cqdb_build_answer cqdb_build_parts(uint32_t mode, uint32_t repeats, uint8_t *buf
      refused, and the image of all names is given up at the first name that stands twice: 64,000 puts took 1.3 ms. */
 static inline cqdb_build_answer cqdb_build(uint32_t mode, uint32_t repeats, uint8_t *buf, size_t len,
                                            const uint8_t *names, size_t names_len, const uint64_t *ends, const uint32_t *ids,
-                                           size_t n, uint32_t *refusals, size_t places, uint32_t *work, size_t words) {
-    return cqdb_build_parts(mode, repeats, buf, len, names, names_len, ends, n, ids, n, refusals, places, work, words);
+                                           size_t n, uint32_t *refusals, size_t places, uint32_t *scratch, size_t words) {
+    return cqdb_build_parts(mode, repeats, buf, len, names, names_len, ends, n, ids, n, refusals, places, scratch, words);
 }
 
 /* How many bytes and words a list needs. */
@@ -595,10 +596,10 @@ typedef struct {
 } cqdb_build_needs_answer;
 
 /* In a buffer of so many bytes no put of the list is refused with 3, with either choice of repeats, unless they exceed
-   4,294,967,295; with so many words it takes linear time, also where a name is refused, unless repeats are on and one name comes
-   very often (see cqdb_build). names_len is the length of the joined names, and n the number of ids. Without a refused put and without a byte
-   behind the last name, bytes is the image's size. A mode other than 0 is taken as one-way, and what exceeds 2^64 - 1 is given as
-   that. Changes nothing, and reads each id once. */
+   4,294,967,295; with so many words it takes linear time, also where a name is refused, unless repeats are on and one name
+   comes very often (see cqdb_build). names_len is the length of the packed names, and n the number of ids. Without a refused
+   put and without a byte behind the last name, bytes is the image's size. A mode other than 0 is taken as one-way, and what
+   exceeds 2^64 - 1 is given as that. Changes nothing, and reads each id once. */
 cqdb_build_needs_answer cqdb_build_needs(uint32_t mode, size_t names_len, const uint32_t *ids, size_t n);
 
 /* Order of a round. Needs no image. */
@@ -865,7 +866,7 @@ cqdb_round_answer cqdb_round_words(const uint8_t *image, size_t len, const uint8
 uint32_t cqdb_name_round_words(const uint8_t *image, size_t len, const uint32_t *ids, size_t n, uint32_t *answers,
                                size_t words);
 
-/* The ids of up to 512 names. They lie joined in names, the first from byte 0 on, and ends[i] is where the i-th ends; bytes may
+/* The ids of up to 512 names. They are packed in names, the first from byte 0 on, and ends[i] is where the i-th ends; bytes may
    follow the last. answers[i] is what cqdb_to_id gives for the i-th name, and equal names are searched for once: buckets is the
    sum over the different names. Places past the n-th keep their content. Refusals, the first that applies, and then nothing is
    written: 14 for more than 512 names, or an end below the one before or above names_len; 15 for fewer places than names. */

@@ -68,8 +68,8 @@ int main(int arguments, char **argument) {
     cqdb_build_needs_answer needs = cqdb_build_needs(CQDB_TWOWAY, length, ids, count);
     size_t bytes = needs.bytes < UINT32_MAX ? needs.bytes : UINT32_MAX;
     uint8_t *image = memory(NULL, bytes);
-    uint32_t *refusals = memory(NULL, count * sizeof *refusals), *work = memory(NULL, needs.words * sizeof *work);
-    cqdb_build_answer built = cqdb_build(CQDB_TWOWAY, CQDB_REPEATS_OFF, image, bytes, names, length, ends, ids, count, refusals, count, work,
+    uint32_t *refusals = memory(NULL, count * sizeof *refusals), *scratch = memory(NULL, needs.words * sizeof *scratch);
+    cqdb_build_answer built = cqdb_build(CQDB_TWOWAY, CQDB_REPEATS_OFF, image, bytes, names, length, ends, ids, count, refusals, count, scratch,
                                          needs.words);
     for (size_t i = 0; i < count; i++)
         if (refusals[i] != 0) fprintf(stderr, "line %zu: %s (refusal %u)\n", i + 1, cqdb_refusal_text(refusals[i]), refusals[i]);

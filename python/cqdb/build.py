@@ -42,10 +42,10 @@ def build(
     buffer = _room(needs.bytes)
     if buffer is None:
         return _put_one_by_one(listed, Writer(one_way=one_way, repeats=repeats))
-    refusals, work = array("I", bytes(4 * len(listed.ids))), zeros(4 * needs.words)
+    refusals, scratch = array("I", bytes(4 * len(listed.ids))), zeros(4 * needs.words)
     lists = [part for words in (listed.ends, listed.ids, refusals) for part in words.buffer_info()]
     answer = calls.cqdb_build_parts(
-        mode, again, buffer, len(buffer), listed.names, len(listed.names), *lists, work, needs.words
+        mode, again, buffer, len(buffer), listed.names, len(listed.names), *lists, scratch, needs.words
     )
     accept(answer.refusal)
     refused = [(place, Refusal(number)) for place, number in enumerate(refusals) if number]
@@ -53,7 +53,7 @@ def build(
 
 
 class _Listed:
-    """The names of a list, joined, with their ends, and the ids."""
+    """The packed names of a list, with their ends, and the ids."""
 
     def __init__(self, entries: Iterable[Tuple[Name, int]], text: Text) -> None:
         joined, self.ends, self.ids = bytearray(), array("Q"), array("I")

@@ -272,9 +272,9 @@ pub struct BuildNeeds {
     pub words: u64,
 }
 
-/// The names of a list, joined, with the place where each ends, and their ids.
+/// The packed names of a list, with the place where each ends, and their ids.
 #[derive(Clone, Copy, Debug)]
-pub struct Joined<'a> {
+pub struct Packed<'a> {
     pub names: &'a [u8],
     pub ends: &'a [u64],
     pub ids: &'a [u32],
@@ -437,7 +437,7 @@ extern "C" {
         ids_len: usize,
         refusals: *mut u32,
         places: usize,
-        work: *mut u32,
+        scratch: *mut u32,
         words: usize,
     ) -> BuildAnswer;
     fn cqdb_build_needs(mode: u32, names_len: usize, ids: *const u32, n: usize) -> BuildNeeds;
@@ -545,7 +545,7 @@ pub fn page_part(image: &[u8], first: u32, count: u32, out: &mut [u8]) -> PageAn
     unsafe { cqdb_page_part(image.as_ptr(), image.len(), first, count, out.as_mut_ptr(), out.len()) }
 }
 
-/// The ids of the names that lie joined with these ends, an answer in the place of each; and the buckets read over the different
+/// The ids of the names that are packed with these ends, an answer in the place of each; and the buckets read over the different
 /// names, or the refusal.
 pub fn round(image: &[u8], names: &[u8], ends: &[u64], answers: &mut [IdAnswer]) -> RoundAnswer {
     let (image, len, names, names_len) = (image.as_ptr(), image.len(), names.as_ptr(), names.len());
@@ -765,17 +765,17 @@ pub fn lengths(image: &[u8], counts: &mut [u32; 16]) -> u32 {
     unsafe { cqdb_lengths(image.as_ptr(), image.len(), counts.as_mut_ptr()) }
 }
 
-/// The image of a whole list, and the number of each put's refusal; or the refusal of the list. `work` is lent for speed.
+/// The image of a whole list, and the number of each put's refusal; or the refusal of the list. `scratch` is lent for speed.
 pub fn build(
     mode: u32,
     repeats: u32,
     buf: &mut [u8],
-    list: Joined<'_>,
+    list: Packed<'_>,
     refusals: &mut [u32],
-    work: &mut [u32],
+    scratch: &mut [u32],
 ) -> BuildAnswer {
-    let Joined { names, ends, ids } = list;
-    // SAFETY: names, ends and ids are lent with their lengths and only read; buffer, refusals and work are `&mut`, so they overlap nothing.
+    let Packed { names, ends, ids } = list;
+    // SAFETY: names, ends and ids are lent with their lengths and only read; buffer, refusals and scratch are `&mut`, so they overlap nothing.
     unsafe {
         cqdb_build_parts(
             mode,
@@ -790,8 +790,8 @@ pub fn build(
             ids.len(),
             refusals.as_mut_ptr(),
             refusals.len(),
-            work.as_mut_ptr(),
-            work.len(),
+            scratch.as_mut_ptr(),
+            scratch.len(),
         )
     }
 }

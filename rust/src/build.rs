@@ -1,7 +1,7 @@
 //! A whole list in one call.
 use std::collections::HashSet;
 
-use crate::archive::{self, Joined};
+use crate::archive::{self, Packed};
 use crate::flag::Flag;
 use crate::refusal::{self, Refusal};
 use crate::write::{MemoryWriter, LIMIT};
@@ -60,11 +60,11 @@ fn build<K: AsRef<[u8]>>(flag: Flag, repeats: u32, list: impl IntoIterator<Item 
         ids.push(id);
     }
     let needs = archive::build_needs(flag.bits(), names.len(), &ids);
-    let joined = Joined { names: &names, ends: &ends, ids: &ids };
-    let length = needed(flag, joined, repeats).min(LIMIT);
+    let packed = Packed { names: &names, ends: &ends, ids: &ids };
+    let length = needed(flag, packed, repeats).min(LIMIT);
     let mut image = zeros(length as usize).ok_or(Refusal::NoRoom)?;
-    let (mut refusals, mut work) = (vec![0; ids.len()], vec![0; needs.words as usize]);
-    let answer = archive::build(flag.bits(), repeats, &mut image, joined, &mut refusals, &mut work);
+    let (mut refusals, mut scratch) = (vec![0; ids.len()], vec![0; needs.words as usize]);
+    let answer = archive::build(flag.bits(), repeats, &mut image, packed, &mut refusals, &mut scratch);
     image.truncate(answer.size as usize);
     let refused =
         refusals.iter().enumerate().filter_map(|(i, &k)| refusal::or(k, ()).err().map(|why| (i, why))).collect();
@@ -73,7 +73,7 @@ fn build<K: AsRef<[u8]>>(flag: Flag, repeats: u32, list: impl IntoIterator<Item 
 
 /// The bytes that the list needs, or more. A put that is refused for its name, or for an id that fits into no image, needs no
 /// back array: the ids of such puts are left out where the array would be larger than the rest of the image.
-fn needed(flag: Flag, list: Joined<'_>, repeats: u32) -> u64 {
+fn needed(flag: Flag, list: Packed<'_>, repeats: u32) -> u64 {
     let bytes = |flag: Flag, names: usize, ids: &[u32]| archive::build_needs(flag.bits(), names, ids).bytes;
     let whole = bytes(flag, list.names.len(), list.ids);
     if whole <= 2 * bytes(Flag::ONEWAY, list.names.len(), list.ids) {

@@ -30,10 +30,10 @@ typedef struct {
 
 static counted build_five(uint32_t mode, uint32_t repeats, uint64_t bytes, const uint32_t *ids, uint64_t words) {
     static uint8_t buf[4096];
-    static uint32_t work[64];
+    static uint32_t scratch[64];
     uint32_t refusals[NAMES];
     counted c = {0, 0, 0};
-    cqdb_build_answer a = cqdb_build(mode, repeats, buf, bytes, five, sizeof five, five_ends, ids, NAMES, refusals, NAMES, work, words);
+    cqdb_build_answer a = cqdb_build(mode, repeats, buf, bytes, five, sizeof five, five_ends, ids, NAMES, refusals, NAMES, scratch, words);
     expect(a.refusal == 0, "the list is accepted");
     for (int i = 0; i < NAMES; i++) {
         c.none += refusals[i] == 0;
@@ -80,12 +80,12 @@ int main(void) {
     static const uint64_t ends[] = {1, 2, 3, 5}, fall[] = {1, 2, 1, 5}, past[] = {1, 2, 3, 6};
     static const uint32_t ids[] = {0, 1, 2, 3};
     static uint8_t buf[4096], single[4096];
-    uint32_t refusals[5] = {9, 9, 9, 9, 9}, work[20];
+    uint32_t refusals[5] = {9, 9, 9, 9, 9}, scratch[20];
     cqdb_build_needs_answer needs = cqdb_build_needs(CQDB_TWOWAY, sizeof(names), ids, 4);
     expect(needs.bytes == 2072 + 5 + 4 * 25 + 4 * 4 && needs.words == 20, "the list needs these bytes and words");
 
-    memset(work, 0xff, sizeof(work));
-    cqdb_build_answer a = cqdb_build(CQDB_TWOWAY, CQDB_REPEATS_OFF, buf, needs.bytes, names, sizeof(names), ends, ids, 4, refusals, 5, work, 20);
+    memset(scratch, 0xff, sizeof(scratch));
+    cqdb_build_answer a = cqdb_build(CQDB_TWOWAY, CQDB_REPEATS_OFF, buf, needs.bytes, names, sizeof(names), ends, ids, 4, refusals, 5, scratch, 20);
     expect(a.refusal == 0 && a.accepted == 2 && a.size == 2072 + 2 * 26 + 4 * 2, "A and B are accepted");
     expect(refusals[0] == 0 && refusals[1] == 0 && refusals[2] == CQDB_REPEATED && refusals[3] == CQDB_ZERO_BYTE, "A again, and the zero byte, are refused");
     expect(refusals[4] == 9, "the place behind the last name keeps its content");
@@ -99,13 +99,13 @@ int main(void) {
     expect(cqdb_close(&w, single, needs.bytes).size == a.size && memcmp(buf, single, a.size) == 0, "the single calls make the same image");
     expect(cqdb_to_id(buf, a.size, names + 1, 1).id == 1, "B is 1");
 
-    a = cqdb_build(CQDB_TWOWAY, CQDB_REPEATS_ON, buf, needs.bytes, names, sizeof(names), ends, ids, 4, refusals, 4, work, 0);
+    a = cqdb_build(CQDB_TWOWAY, CQDB_REPEATS_ON, buf, needs.bytes, names, sizeof(names), ends, ids, 4, refusals, 4, scratch, 0);
     expect(a.refusal == 0 && a.accepted == 3 && refusals[2] == 0, "with repeats on A is accepted again");
-    expect(cqdb_build(2, 0, buf, 4096, names, 5, fall, ids, 4, refusals, 3, work, 12).refusal == CQDB_UNFIT, "mode 2");
-    expect(cqdb_build(0, 0, buf, 4096, names, 5, fall, ids, 4, refusals, 3, work, 12).refusal == CQDB_ROUND_UNFIT, "ends that fall");
-    expect(cqdb_build(0, 0, buf, 4096, names, 5, past, ids, 4, refusals, 4, work, 12).refusal == CQDB_ROUND_UNFIT, "an end past the names");
-    expect(cqdb_build(0, 0, buf, 2071, names, 5, ends, ids, 4, refusals, 3, work, 12).refusal == CQDB_ANSWERS_TOO_FEW, "a place too few");
-    expect(cqdb_build(0, 0, buf, 2071, names, 5, ends, ids, 4, refusals, 4, work, 12).refusal == CQDB_TOO_SHORT, "a buffer too short");
+    expect(cqdb_build(2, 0, buf, 4096, names, 5, fall, ids, 4, refusals, 3, scratch, 12).refusal == CQDB_UNFIT, "mode 2");
+    expect(cqdb_build(0, 0, buf, 4096, names, 5, fall, ids, 4, refusals, 3, scratch, 12).refusal == CQDB_ROUND_UNFIT, "ends that fall");
+    expect(cqdb_build(0, 0, buf, 4096, names, 5, past, ids, 4, refusals, 4, scratch, 12).refusal == CQDB_ROUND_UNFIT, "an end past the names");
+    expect(cqdb_build(0, 0, buf, 2071, names, 5, ends, ids, 4, refusals, 3, scratch, 12).refusal == CQDB_ANSWERS_TOO_FEW, "a place too few");
+    expect(cqdb_build(0, 0, buf, 2071, names, 5, ends, ids, 4, refusals, 4, scratch, 12).refusal == CQDB_TOO_SHORT, "a buffer too short");
     printf("build: %u checked, %u different\n", checked, different);
     return different > 0;
 }

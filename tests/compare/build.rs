@@ -13,7 +13,7 @@ mod rules;
 mod seed;
 mod tally;
 
-use archive::{BuildAnswer, Joined};
+use archive::{BuildAnswer, Packed};
 use names::Names;
 use original::Put;
 use rules::HEAD;
@@ -42,8 +42,8 @@ impl List {
         list
     }
 
-    fn joined(&self) -> Joined<'_> {
-        Joined { names: &self.names, ends: &self.ends, ids: &self.ids }
+    fn packed(&self) -> Packed<'_> {
+        Packed { names: &self.names, ends: &self.ends, ids: &self.ids }
     }
 }
 
@@ -71,8 +71,8 @@ fn single(mode: u32, repeats: u32, mut buf: Vec<u8>, puts: &[Put], mut answers: 
     Left { answer, answers, buf }
 }
 
-fn built(mode: u32, repeats: u32, mut buf: Vec<u8>, list: Joined<'_>, mut answers: Vec<u32>, work: &mut [u32]) -> Left {
-    let answer = archive::build(mode, repeats, &mut buf, list, &mut answers, work);
+fn built(mode: u32, repeats: u32, mut buf: Vec<u8>, list: Packed<'_>, mut answers: Vec<u32>, scratch: &mut [u32]) -> Left {
+    let answer = archive::build(mode, repeats, &mut buf, list, &mut answers, scratch);
     Left { answer, answers, buf }
 }
 
@@ -149,15 +149,15 @@ fn accepted_list(random: &mut Random, names: &Names, tally: &mut Tally) -> usize
         5 * n,
         5 * n + 7,
     ]);
-    let mut work = words(random, much);
+    let mut scratch = words(random, much);
     let list = List::new(&puts);
-    let mut lent = list.joined();
+    let mut lent = list.packed();
     let more = random.bytes(random.seed as usize % 3);
     let names = [&list.names[..], &more].concat();
     lent.names = &names;
     let ids = [&list.ids[..], &answers[..random.below(answers.len() + 1)]].concat();
     lent.ids = &ids;
-    let given = built(mode, repeats, buf.clone(), lent, answers.clone(), &mut work);
+    let given = built(mode, repeats, buf.clone(), lent, answers.clone(), &mut scratch);
     let wanted = single(mode, repeats, buf, &puts, answers);
     tally.rule(given.answer, wanted.answer, || format!("answer, mode {mode}, repeats {repeats}, {much} words, {puts:?}"));
     tally.rule(&given.answers, &wanted.answers, || format!("answers, mode {mode}, repeats {repeats}, {much} words, {puts:?}"));
@@ -189,7 +189,7 @@ fn sized_list(random: &mut Random, n: usize, tally: &mut Tally) {
     let buf = vec![9; room];
     let wanted = single(mode, repeats, buf.clone(), &puts, vec![7; n]);
     for much in [0, 5 * n] {
-        let given = built(mode, 0, buf.clone(), list.joined(), vec![7; n], &mut vec![u32::MAX; much]);
+        let given = built(mode, 0, buf.clone(), list.packed(), vec![7; n], &mut vec![u32::MAX; much]);
         tally.rule(given.answer, wanted.answer, || format!("{n} names, mode {mode}, {much} words"));
         tally.rule(given.answers == wanted.answers, true, || format!("the answers of {n} names, mode {mode}, {much} words"));
         tally.rule(promised(&given, &wanted, all), true, || format!("the image of {n} names, mode {mode}, {much} words"));
@@ -234,12 +234,12 @@ fn refused_list(random: &mut Random, names: &Names, tally: &mut Tally) {
         }
         due = 2;
     }
-    let (buf, answers, work) = (random.bytes(len), words(random, places), words(random, 5 * n));
-    let mut after = work.clone();
-    let given = built(mode, repeats, buf.clone(), list.joined(), answers.clone(), &mut after);
+    let (buf, answers, scratch) = (random.bytes(len), words(random, places), words(random, 5 * n));
+    let mut after = scratch.clone();
+    let given = built(mode, repeats, buf.clone(), list.packed(), answers.clone(), &mut after);
     let answer = BuildAnswer { refusal: due, size: 0, accepted: 0 };
     tally.rule(given, Left { answer, answers, buf }, || format!("refused list, {n} names"));
-    tally.rule(after == work, true, || format!("lent memory of a refused list, {n} names"));
+    tally.rule(after == scratch, true, || format!("lent memory of a refused list, {n} names"));
 }
 
 // A million names once, some of them repeated; single puts with repeats on make the image of the first of each.
@@ -257,11 +257,11 @@ fn large(random: &mut Random, tally: &mut Tally) {
         }
     }
     let list = List::new(&puts);
-    let mut work = vec![u32::MAX; 7 * puts.len()];
+    let mut scratch = vec![u32::MAX; 7 * puts.len()];
     // room for the accepted names alone, and for all
     for room in [whole(0, &fresh), whole(0, &puts)] {
         let buf = vec![9; room];
-        let given = built(0, 0, buf.clone(), list.joined(), vec![1; puts.len()], &mut work);
+        let given = built(0, 0, buf.clone(), list.packed(), vec![1; puts.len()], &mut scratch);
         let wanted = single(0, 1, buf, &fresh, vec![0; fresh.len()]);
         tally.rule(given.answer, wanted.answer, || "a million names".into());
         tally.rule(given.answers == due, true, || "the answers of a million names".into());

@@ -328,13 +328,13 @@ impl Run {
         let words = |random: &mut Random, k: usize| -> Box<[u32]> { (0..k).map(|_| random.word() % 40).collect() };
         let much = [n, n, n, n + 1, n.saturating_sub(1)];
         let (ids, places, lent) = (random.pick(&much), random.pick(&much), random.pick(&[0, 1, n, 2 * n, 3 * n, 4 * n]));
-        let (ids, before, mut work) = (words(random, ids), words(random, places), words(random, lent));
+        let (ids, before, mut scratch) = (words(random, ids), words(random, places), words(random, lent));
         let room = random.pick(&[0, 2_071, 2_072, 2_300, 3_000]);
         let first = random.bytes(room);
         let (ends, mut buf, mut answers) = (ends.into_boxed_slice(), exact(&first), before.clone());
         let (mode, repeats) = (random.pick(&[0, 0, 1, 2]), random.pick(&[0, 0, 1, 2]));
-        let joined = archive::Joined { names: &names, ends: &ends, ids: &ids };
-        let answer = archive::build(mode, repeats, &mut buf, joined, &mut answers, &mut work);
+        let packed = archive::Packed { names: &names, ends: &ends, ids: &ids };
+        let answer = archive::build(mode, repeats, &mut buf, packed, &mut answers, &mut scratch);
         self.tally.rule([0, 1, 2, 14, 15].contains(&answer.refusal), true, || format!("{answer:?}"));
         if answer.refusal > 0 {
             self.tally.rule(answers == before, true, || "the answers of a refused list".into());
@@ -349,11 +349,11 @@ impl Run {
         self.refused += u64::from(answer.refusal > 0);
         self.calls += 1;
         self.lists += 1;
-        self.needs(random, mode, joined);
+        self.needs(random, mode, packed);
     }
 
     // What a list needs, by the rule; in a heap block of exactly so many bytes none of its puts is refused with 3.
-    fn needs(&mut self, random: &mut Random, mode: u32, list: archive::Joined<'_>) {
+    fn needs(&mut self, random: &mut Random, mode: u32, list: archive::Packed<'_>) {
         let back = if mode == 0 { list.ids.iter().map(|&id| u64::from(id) + 1).max().unwrap_or(0) } else { 0 };
         let due = (HEAD + list.names.len() + 25 * list.ids.len()) as u64 + 4 * back;
         let needs = archive::build_needs(mode, list.names.len(), list.ids);
@@ -362,8 +362,8 @@ impl Run {
         let most = archive::build_needs(mode, long, list.ids).bytes;
         self.tally.rule(u128::from(most), u128::from(u64::MAX).min(long as u128 + u128::from(due) - list.names.len() as u128), || format!("{most} for {long} bytes"));
         let (mut buf, mut answers) = (exact(&random.bytes(due as usize)), vec![0; list.ends.len()].into_boxed_slice());
-        let mut work = vec![random.word(); random.pick(&[0, needs.words as usize])].into_boxed_slice();
-        let answer = archive::build(mode, random.pick(&[0, 1]), &mut buf, list, &mut answers, &mut work);
+        let mut scratch = vec![random.word(); random.pick(&[0, needs.words as usize])].into_boxed_slice();
+        let answer = archive::build(mode, random.pick(&[0, 1]), &mut buf, list, &mut answers, &mut scratch);
         self.tally.rule(answers.contains(&3), false, || format!("{answer:?} and {answers:?} in {due} bytes"));
         self.refused += u64::from(answer.refusal > 0);
         self.calls += 3;
