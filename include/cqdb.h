@@ -36,56 +36,56 @@
    KB of 1,024 bytes; calls without a number take less than 1 KB.
 
      call                            time for each                            4,096   100,000   stack
-     average                         entry                                       23        41       2
+     average                         entry                                       22        40       2
      begin                           call                                        14
-     build, a name refused, 5 words  name                                        30        50      39
+     build, a name refused, 5 words  name                                        29        43      39
      build, a name refused, no words name and earlier name                      4.6                39
      build, no name refused          name                                        11        15      39
      build_needs                     id                                         0.2       0.2
      bundle_append                   image in the file                          2.1
-     bundle_append                   image of 157,720 bytes, its copy         2,683
-     bundle_count                    image                                      2.2
-     bundle_open                     image up to the one that is opened         2.5
+     bundle_append                   image of 157,720 bytes, its copy         2,684
+     bundle_count                    image                                      2.0
+     bundle_open                     image up to the one that is opened         2.4
      canonical                       entry                                       10        19       2
      close                           entry                                       16        16      39
-     entry                           call                                       1.9       2.1
+     entry                           call                                       2.0       2.3
      grown                           call                                       1.6
      hash                            name of 9 bytes                            3.5
      hash                            name of 1,024 bytes                        300
-     home                            call                                        12        31
-     index                           entry                                      9.9        18       2
-     index_words                     call                                       1.6
-     lengths                         entry                                       22        41       2
-     load                            load of 4,096 entries                  125,056                39
-     moved                           call                                        15        36
+     home                            call                                        12        30
+     index                           entry                                      9.9        17       2
+     index_words                     call                                       1.3
+     lengths                         entry                                       22        40       2
+     load                            load of 4,096 entries                  125,467                39
+     moved                           call                                        15        34
      name_on                         call with one window                        10
-     name_on                         window of a thousand                       3.3
-     name_round                      id                                         1.3       2.7
+     name_on                         window of a thousand                       3.2
+     name_round                      id                                         1.4       2.7
      next_change                     id up to the change                        2.9       2.9
      one_to_one                      entry                                       25        43       2
      open                            call                                        88        88
      page                            line                                       6.9       7.8
      page_length                     call                                       1.4       1.4
      page_part                       line                                       6.9       7.8
-     panel                           call                                       5.4       9.5
-     preflight                       report of 512 ids                      941,699 4,995,534       2
+     panel                           call                                       5.4       9.3
+     preflight                       report of 512 ids                      941,048 4,949,546       2
      preflight_dates                 window and id of the round, at most        0.3
-     preflight_first                 report of 512 ids                      886,046 2,720,283       2
+     preflight_first                 report of 512 ids                      883,423 2,707,544       2
      put, repeats off                earlier entry                              4.1       4.1       2
-     put, repeats on                 call                                        20        20
+     put, repeats on                 call                                        19        19
      put_indexed                     call                                        20        24
      readings_agree                  id below the back size                     3.1       3.1
-     references_first                pair and id of the round, at most          0.4
+     references_first                pair and id of the round, at most          0.5
      round                           name that is found                          14        17      14
      round                           name that is absent                         14        17
      sheet_read                      call                                       2.7
      sheet_write                     id                                         0.5
      size_hint                       call                                       1.6       1.6
-     size_with                       call                                       1.8
-     table                           call                                       1.6       1.4
-     to_id                           name that is found                          10        23
+     size_with                       call                                       1.9
+     table                           call                                       1.6       1.6
+     to_id                           name that is found                          10        21
      to_id                           name that is absent                        9.1        17
-     to_str                          call                                       1.9       3.3
+     to_str                          call                                       1.6       3.3
      version_number                  call                                       1.3
 
    When an image can be read: from the cqdb_close that made it to the next accepted cqdb_put or cqdb_put_indexed in the same
