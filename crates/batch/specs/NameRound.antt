@@ -8,6 +8,7 @@ use lib.Dec.{ltb}
 use Rattle.image.specs.Bytes.{cat}
 use Rattle.reader.specs.Naming.{Naming, place, unnamed, naming}
 use Rattle.jhash.specs.Refusals as refused
+use Rattle.batch.specs.RoundNames.{mostNames}
 
 -- for each id the place of its name or nothing, as single namings give it: 1, the name's length, its start in two
 -- words, the low one first; or four zeros
@@ -21,7 +22,7 @@ nameWords image ids = cat (λ (id : ℕ). placeWords (naming image id)) ids
 -- the refusal's number, 0 where none applies
 unfoldable pub nameRefusal : List ℕ → ℕ → ℕ
 nameRefusal ids places =
-    cond (ltb 512 (length ids)) refused.roundUnfit (cond (ltb places (length ids)) refused.answersTooFew 0)
+    cond (ltb mostNames (length ids)) refused.roundUnfit (cond (ltb places (length ids)) refused.answersTooFew 0)
 
 -- the answer list afterwards
 unfoldable pub afterNames : List ℕ → List ℕ → List ℕ → List ℕ

@@ -8,7 +8,7 @@ use Rattle.jhash.specs.Outcome.{Outcome, value, refusal}
 use Rattle.image.specs.Bytes.{cat}
 use Rattle.reader.specs.Lookup.{Lookup, found, nothing, lookup}
 use Rattle.reader.specs.Cases.{reads}
-use Rattle.batch.specs.RoundNames.{names, invalidEnds, different}
+use Rattle.batch.specs.RoundNames.{mostNames, names, invalidEnds, different}
 use Rattle.batch.specs.declared.Rounded.{Rounded}
 use Rattle.batch.specs.declared.Rounded.the-variants.{Buckets, Refused}
 use Rattle.jhash.specs.Refusals as refused
@@ -34,7 +34,7 @@ roundBuckets image xs = bucketsRead image (different xs)
 -- "Over 512 names, or ends that fall or pass the bytes, give 14"; "then an answer list shorter than the names gives 15"
 unfoldable pub roundOutcome : List ℕ → List ℕ → List ℕ → ℕ → Outcome ℕ
 roundOutcome image bytes ends places =
-    cond (ltb 512 (length ends) || invalidEnds (length bytes) 0 ends) (refusal refused.roundUnfit)
+    cond (ltb mostNames (length ends) || invalidEnds (length bytes) 0 ends) (refusal refused.roundUnfit)
     (cond (ltb places (length ends)) (refusal refused.answersTooFew) (value (roundBuckets image (names bytes ends))))
 
 -- the answer list afterwards: "answer places past the last name keep their content"; all as it was where the call is

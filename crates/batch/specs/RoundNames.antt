@@ -7,6 +7,10 @@ use Rattle.image.specs.Bytes.{same}
 unfoldable pub use Rattle.image.specs.PackedNames.{namesFrom, names, invalidEnds, packedBytes, endsFrom}
 pub use Rattle.image.specs.PackedNames.{nth}
 
+-- "Up to 512 names"
+abbrev pub mostNames : ℕ
+mostNames = 512
+
 -- is a name among some names?
 unfoldable pub among : List ℕ → List (List ℕ) → Bool
 among x [] = false

@@ -26,21 +26,21 @@ const PASSES: u32 = 8;
 pub(crate) fn put_words(
     answers: &mut [u32],
     i: usize,
-    found: u32,
-    id: u32,
-    buckets: u32,
-    offset: u32,
+    first: u32,
+    second: u32,
+    third: u32,
+    fourth: u32,
 )
     requires { ⌜ HasPlace (now answers) i ⌝ }
     ensures { λ _. ⌜
-        now (answers .exit) ≡ putWords (now (answers .entry)) i (found ∷ id ∷ buckets ∷ offset ∷ [])
+        now (answers .exit) ≡ putWords (now (answers .entry)) i (first ∷ second ∷ third ∷ fourth ∷ [])
         ⌝ }
 {
     let at = 4 * i;
-    answers[at] = found;
-    answers[at + 1] = id;
-    answers[at + 2] = buckets;
-    answers[at + 3] = offset;
+    answers[at] = first;
+    answers[at + 1] = second;
+    answers[at + 2] = third;
+    answers[at + 3] = fourth;
 }
 
 // Stores a lookup's answer in the i-th place.
@@ -72,8 +72,8 @@ fn copy_answer(answers: &mut [u32], from: usize, to: usize)
     put_words(&mut *answers, to, found, id, buckets, offset);
 }
 
-// Stores the answer of name i, which is not too long for a hash, where bucket c of its search has this offset. If the
-// entry there has another name, the search goes on.
+// Stores the answer of name i, whose search is decided by bucket c, which has this offset. If the entry there has
+// another name, the search goes on. The name is not too long for a hash.
 fn put_decided(
     image: &[u8],
     name: &[u8],
@@ -219,8 +219,8 @@ pub(crate) fn find_all(
     find_open(image, bytes, ends, hashes, &*live, q, c, &mut *answers);
 }
 
-// The buckets read over the unique ones of n names, from the answers in their places. Their order does not follow the
-// passes', so they are added up here. There is no branch.
+// The sum of the buckets read for the unique ones of n names. The passes answer names out of order, so the sum is
+// taken here, from the stored answers in the order of the names. There is no branch.
 pub(crate) fn sum_buckets(equals: &[u16], n: usize, answers: &[u32]) -> u64
     requires { ⌜ EqualsPre (now equals) (now answers) n ⌝ }
     ensures { λ r. ⌜ SumsUnique (now (equals .entry)) (now (answers .entry)) n r ⌝ }

@@ -1,6 +1,6 @@
 // Duplicates among the names of a round, found by open addressing in slots on the stack, as in an index. A slot has the
-// number of a name, counted from 1, or 0 where it is empty. A search goes along the slots from (hash / 256) modulo
-// their number on, and compares names where the whole hashes are equal: different names can have one hash.
+// number of a name, counted from 1, or 0 where it is empty. A search starts at slot (hash / 256) modulo their number
+// and compares names only where the whole hashes are equal: different names can have one hash.
 ghost use mathlib.Core.Path.{_≡_};
 ghost use lib.ListN.{length};
 ghost use Rattle.image.specs.Bytes.{same};

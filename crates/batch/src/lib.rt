@@ -24,13 +24,13 @@ pub use naming::name_round;
 // "Up to 512 names" (02 (vii)): how many names or ids a round has at most.
 pub(crate) const MOST_NAMES: usize = 512;
 
-// What a round answers: the buckets read over the different names, or the number of the refusal.
+// What a round answers: how many buckets were read, with equal names counted once, or the number of the refusal.
 pub enum Rounded {
     Buckets(u64),
     Refused(u32),
 }
 
-// Stores the answers of all names in their places. Gives the buckets read over the different names.
+// Stores the answers of all names in their places. Gives how many buckets were read, with equal names counted once.
 fn answer_all(image: &[u8], bytes: &[u8], ends: &[u64], answers: &mut [u32]) -> u64
     requires { ⌜ AnswerAllPre (now bytes) (now ends) (now answers) ⌝ }
     ensures { λ r. ⌜

@@ -11,7 +11,7 @@ use jhash::refusals::ANSWERS_TOO_FEW;
 use jhash::refusals::ROUND_UNFIT;
 use reader::Named;
 
-// Stores the place of a name, or nothing, in four words, where the name's length is below 2^32.
+// Stores where a name stands in the image, or four zeros for no name, in the i-th answer. The name's length is a word.
 fn put_place(answers: &mut [u32], i: usize, named: Named)
     requires { ⌜ PutPlacePre (now answers) i (namingOf named) ⌝ }
     ensures { λ _. ⌜ now (answers .exit) ≡ putWords (now (answers .entry)) i (placeWords (namingOf named)) ⌝ }

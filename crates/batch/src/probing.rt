@@ -1,20 +1,20 @@
-// A pass of a round: each search that is still open reads its next bucket. Where a bucket is there to be read the pass
-// has no branch that depends on the names, so that none is mispredicted and the reads of many names are under way at
-// once.
+// A pass of a round: each search that is still open reads its next bucket. As long as each table has another bucket,
+// no branch of the pass depends on the names, so none is mispredicted and the processor reads the buckets of many
+// names at once.
 ghost use Prim.Native.Nat.{_+_, _-_};
 ghost use Rattle.batch.specs.steps.Probing.{Passes, ProbeNextPre, NextProbed, PassPre, OpenOrDecided};
 use jhash::word::word;
 use reader::lookup::bucket_after;
 use reader::lookup::find_table;
 
-// What the next bucket of a search says: its offset, and 1 where the search is open behind it, else 0.
+// The next bucket of a search: the offset in it, and `on`, 1 if the search stays open after it, else 0.
 struct BucketProbe {
     offset: u32,
     on: usize,
 }
 
-// 1 where a search for the hash h passes a bucket with this hash and offset: another hash, and not empty. Else 0.
-fn passes(hash: u32, h: u32, offset: u32) -> usize
+// 1 if a search for the hash h goes past a bucket with this hash and offset: another hash, and not empty. Else 0.
+fn goes_past(hash: u32, h: u32, offset: u32) -> usize
     ensures { λ r. ⌜ Passes hash h offset r ⌝ }
 {
     if (hash == h) | (offset == 0) { 0 } else { 1 }
@@ -34,7 +34,7 @@ fn probe_next(image: &[u8], h: u32, c: u32) -> BucketProbe
     let k = bucket_after(h, c, n) as usize;
     let at = table.at as usize + 8 * k;
     let offset = word(image, at + 4);
-    let on = passes(word(image, at), h, offset);
+    let on = goes_past(word(image, at), h, offset);
     BucketProbe { offset, on }
 }
 

@@ -22,7 +22,7 @@ use Rattle.image.proofs.NameEnds.{length-names, nth-name, begin-next, begins-ri
 use Rattle.writer.specs.declared.CQDBWriter.{CQDBWriter}
 use Rattle.serialize.specs.steps.Meeting.{Pairwise, Distinct}
 use Rattle.writer.specs.declared.Repeats.{Repeats}
-use Rattle.writer.specs.State.{State, stateWith, fresh, refusesRepeats}
+use Rattle.writer.specs.State.{State, stateWith, fresh, refusesRepeats, freshWriter}
 use Rattle.writer.specs.Put.{entryOf}
 use Rattle.writer.specs.Close.{closeRefusal, closedSize, afterClose}
 use Rattle.lists.specs.Calls.{Call, accepted, due, sizeOf, puts, WordIds}
@@ -37,7 +37,7 @@ use Rattle.build.specs.declared.Built.{Built}
 use Rattle.build.specs.declared.Built.the-variants.{Image}
 use Rattle.build.specs.Build.{listed, buildRefusal, madeOf}
 use Rattle.build.specs.steps.Capacity.{RoomForAll}
-use Rattle.build.specs.steps.Steps.{begunWith, ListPre, ListBuilt, KeptBehind, Finished}
+use Rattle.build.specs.steps.Steps.{ListPre, ListBuilt, KeptBehind, Finished}
 use Rattle.build.specs.steps.Stores.{listEntries, NoZeros}
 use Rattle.build.proofs.Whole.{refusal-none, answers-are, built-made}
 use Rattle.build.proofs.Listed.{nth-listed}
@@ -96,7 +96,7 @@ pairwise-nth R (x ∷ xs) d two (suc i) (suc j) h k = pairwise-nth R xs d (two .
 
 -- a record that was begun is fresh
 pub begun-fresh : (mode : Mode) (repeats : Repeats) (buffer counts : List ℕ) (w : CQDBWriter) → counts ≡ replicate 256 0
-    → w ≡ begunWith mode repeats (length buffer) → stateWith w counts buffer ≡ fresh (w .mode) (w .repeats) buffer
+    → w ≡ freshWriter mode repeats (length buffer) → stateWith w counts buffer ≡ fresh (w .mode) (w .repeats) buffer
 unfolding fresh
 begun-fresh mode repeats buffer counts w z e =
     ap₂ (λ (x : CQDBWriter) (c : List ℕ). stateWith x c buffer) e z ∙ sym (ap (λ (x : CQDBWriter). fresh (x .mode) (x .repeats) buffer) e)

@@ -5,12 +5,10 @@ ghost use lib.ListN.{length};
 ghost use Rattle.writer.specs.State.{stateWith, refusesRepeats};
 ghost use Rattle.build.specs.Build.{buildRefusal, building, BufferBuilt, answersAfter, builtOf};
 ghost use Rattle.build.specs.steps.Steps.{ListPre, ListBuilt, DirectPre, DirectTried, FinishPre, Finished};
-ghost use Rattle.build.specs.steps.Steps.{begunWith};
 use capacity::has_capacity;
 use hashed::any_zero;
 use hashed::hash_list;
 use image::HEAD_SIZE;
-use image::HEAD_SIZE_64;
 use image::Mode;
 use image::packed::invalid_ends;
 use image::scratch::clear_words;
@@ -22,6 +20,7 @@ use singly::scratch_for_index;
 use stored::write_list;
 use writer::CQDBWriter;
 use writer::Repeats;
+use writer::record::fresh_writer;
 
 mod capacity; // capacity.rt: has an image of all names room?
 mod hashed; // hashed.rt: the hashes of all names
@@ -53,20 +52,6 @@ fn finish_list(w: CQDBWriter, counts: &[u32; 256], buf: &mut [u8]) -> Made
     }
 }
 
-// A fresh record of a buffer of `length` bytes.
-fn begun(mode: Mode, repeats: Repeats, length: usize) -> CQDBWriter
-    ensures { λ r. ⌜ r ≡ begunWith mode repeats length ⌝ }
-{
-    CQDBWriter {
-        mode,
-        repeats,
-        length: length as u64,
-        end: HEAD_SIZE_64,
-        entries: 0,
-        back: 0,
-    }
-}
-
 // The puts one by one and one close, from a fresh record. The index of a fresh record has no entry: its slots are
 // cleared.
 fn build_singly(
@@ -89,7 +74,7 @@ fn build_singly(
     let slots = &mut scratch[..words];
     clear_words(&mut *slots, words);
     let mut counts = [0; 256];
-    let w = begun(mode, repeats, buf.len());
+    let w = fresh_writer(mode, repeats, buf.len());
     let after = put_list(
         w,
         &mut counts,

@@ -1,4 +1,4 @@
--- Links match the entries exactly where each is the offset of its id's last entry. Assumes nothing.
+-- Back words match the entries exactly where each is the offset of its id's last entry. Assumes nothing.
 use Prim.Native.Nat.{ℕ, suc, _+_, _≤_, _<_}
 use native.Mathlib.Omega.{arith}
 use native.Mathlib.Decide.{decLe, ℕ-discrete}

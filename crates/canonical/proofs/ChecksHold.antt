@@ -29,7 +29,7 @@ use Rattle.image.specs.declared.Mode.the-variants.{Twoway, Oneway}
 use Rattle.image.specs.Zero.{hasZero}
 use Rattle.canonical.specs.Canonical.{modeIn}
 use Rattle.canonical.specs.steps.HiddenBuckets.{ownBackWords, Stands, TableMatches, BackArrayMatches}
-use Rattle.canonical.specs.steps.InPlace.{slotsAt, backWordAt}
+use Rattle.canonical.specs.steps.InPlace.{bucketAt, backWordAt}
 use Rattle.canonical.specs.steps.Made.{Storable, Made}
 use Rattle.canonical.specs.steps.Checks.{endIn, entriesTo, rowCount, tablePlace, countsMatch, notBefore}
 use Rattle.canonical.specs.steps.Checks.{twoWay, entriesOk, backWordsCounted, Checked}
@@ -102,11 +102,11 @@ module _ (mode : Mode) (es : List Entry) (each : All Storable es) (fits : imageS
   place-is : (t : ℕ) → t < 256 → tablePlace img (endIn img n) t ≡ entriesEnd es + 16 * entriesBefore t ps
   place-is t h = ap₂ (λ (x y : ℕ). x + 16 * y) ends (rows-before img ps numbers t (omega arith))
 
-  matches : (t : ℕ) → t < 256 → TableMatches (2 * rowCount img t) (slotsAt img (tablePlace img (endIn img n) t)) (map bucketOf (ofTable t ps))
+  matches : (t : ℕ) → t < 256 → TableMatches (2 * rowCount img t) (bucketAt img (tablePlace img (endIn img n) t)) (map bucketOf (ofTable t ps))
   unfolding ps
   matches t h =
       rw (place-is t h, row-count img ps numbers t h)
-      (filled-matches (2 * count t ps) (slotsAt img (entriesEnd es + 16 * entriesBefore t ps)) (map bucketOf (ofTable t ps))
+      (filled-matches (2 * count t ps) (bucketAt img (entriesEnd es + 16 * entriesBefore t ps)) (map bucketOf (ofTable t ps))
       (omega (arith, length-map (ofTable t ps) bucketOf)) (table-rises es t) (ip .tables t h))
 
   row : (t : ℕ) → t < 256 → Row img (endIn img n) t
@@ -131,13 +131,13 @@ module _ (mode : Mode) (es : List Entry) (each : All Storable es) (fits : imageS
   unfolding ofTable
   buckets =
       all-map (λ p s. bucket-checked img (bucketOf p) (s (eq-eqb (tableOf (hashOf (p .entry .name))) _ refl))) ps
-      (all-own (λ (t : ℕ) (p : Placed). inTable t p ≡ true → Stands (bucketNumber img t) (slotsAt img (tableAt img t)) (bucketOf p))
+      (all-own (λ (t : ℕ) (p : Placed). inTable t p ≡ true → Stands (bucketNumber img t) (bucketAt img (tableAt img t)) (bucketOf p))
       (λ (p : Placed). tableOf (hashOf (p .entry .name))) 256 ps (all-map (λ p s. mod-lt (hashOf (p .entry .name)) (omega arith)) ps names)
       (λ t h. all-map (λ p s i. moved t h (bucketOf p) (s i)) ps
-      (all-tested (Stands (2 * rowCount img t) (slotsAt img (tablePlace img (endIn img n) t))) bucketOf (inTable t) ps (matches t h .stand))))
+      (all-tested (Stands (2 * rowCount img t) (bucketAt img (tablePlace img (endIn img n) t))) bucketOf (inTable t) ps (matches t h .stand))))
     where
-      moved : (t : ℕ) (h : t < 256) (b : Bucket) → Stands (2 * rowCount img t) (slotsAt img (tablePlace img (endIn img n) t)) b
-          → Stands (bucketNumber img t) (slotsAt img (tableAt img t)) b
+      moved : (t : ℕ) (h : t < 256) (b : Bucket) → Stands (2 * rowCount img t) (bucketAt img (tablePlace img (endIn img n) t)) b
+          → Stands (bucketNumber img t) (bucketAt img (tableAt img t)) b
       moved t h b s =
           let r = row t h in
           rw (row-place img (endIn img n) r (omega (arith, s .inside, r .number)), r .number) s
@@ -162,8 +162,8 @@ module _ (mode : Mode) (es : List Entry) (each : All Storable es) (fits : imageS
       All (λ (p : Placed). notBefore (isTwo f) (p .at) (backWordAt img (endIn img n + 16 * n) (p .entry .id)) ≡ true) ps
       × (cond (isTwo f) (backWordsCounted img (endIn img n + 16 * n) (backSizeAt img) ps) true ≡ true)
 
-  linked : Linked mode
-  linked = by-mode mode matched
+  lasts : Linked mode
+  lasts = by-mode mode matched
     where
       by-mode : (f : Mode) → (f ≡ Twoway → BackArrayMatches (backSizeAt img) (backWordAt img (endIn img n + 16 * n)) ps) → Linked f
       by-mode Twoway m =
@@ -175,7 +175,7 @@ module _ (mode : Mode) (es : List Entry) (each : All Storable es) (fits : imageS
       entries-checked img (isTwo mode) (endIn img n + 16 * n) ps
       (all-map (λ p s. and-both (notBefore (isTwo mode) (p .at) (backWordAt img (endIn img n + 16 * n) (p .entry .id))) _ (s .0)
       (and-both (not (hasZero (p .entry .name))) _ (s .1 .0) (s .1 .1))) ps
-      (all-both _ (λ (p : Placed). Free p × InBucket img p) ps (linked .0) (all-both Free (InBucket img) ps names buckets)))
+      (all-both _ (λ (p : Placed). Free p × InBucket img p) ps (lasts .0) (all-both Free (InBucket img) ps names buckets)))
 
   -- ---- all
 
@@ -193,7 +193,7 @@ module _ (mode : Mode) (es : List Entry) (each : All Storable es) (fits : imageS
     back-words =
         ap₂ (λ (two : Bool) (l : List Entry). cond two (backWordsCounted img (endIn img n + 16 * n) (backSizeAt img) (placed headSize l)) true)
         two-is entries-are
-        ∙ linked .1;
+        ∙ lasts .1;
   }
     where
       flags : modeIn img ≡ mode

@@ -29,7 +29,7 @@ use Rattle.image.specs.declared.Mode.{Mode}
 use Rattle.image.specs.declared.Mode.the-variants.{Twoway, Oneway}
 use Rattle.canonical.specs.Canonical.{modeIn}
 use Rattle.canonical.specs.steps.HiddenBuckets.{usedTo, ownBackWords, Stands}
-use Rattle.canonical.specs.steps.InPlace.{slotsAt, backWordAt}
+use Rattle.canonical.specs.steps.InPlace.{bucketAt, backWordAt}
 use Rattle.canonical.specs.steps.Made.{Made}
 use Rattle.canonical.specs.steps.Checks.{endIn, entriesTo, rowCount, tablePlace, notBefore}
 use Rattle.canonical.specs.steps.Checks.{twoWay, entryOk, backWordsCounted, Checked}
@@ -147,19 +147,19 @@ module _ (img : List ℕ) (n : ℕ) (bytes : AllBytes img) (c : Checked img n) w
       all-map (λ p ok. let name = and-second (notBefore (twoWay img) (p .at) (backWordAt img (endIn img n + 16 * n) (p .entry .id))) _ ok in
       let free = not (hasZero (p .entry .name)) in (and-first free _ name, and-second free _ name)) ps checks
 
-  table : (t : ℕ) → t < 256 → Filled (2 * count t ps) (slotsAt img (place t)) (map bucketOf (ofTable t ps))
+  table : (t : ℕ) → t < 256 → Filled (2 * count t ps) (bucketAt img (place t)) (map bucketOf (ofTable t ps))
   unfolding ps place
   table t h =
       let facts = table-facts img (tablePlace img (endIn img n) t) (rowCount img t) (row t h .table) in
       let (zeros, used) = rw (place-is t h, row-count img ps numbers t h) at facts in
-      matching-filled (2 * count t ps) (slotsAt img (place t)) (map bucketOf (ofTable t ps)) (table-rises es t)
+      matching-filled (2 * count t ps) (bucketAt img (place t)) (map bucketOf (ofTable t ps)) (table-rises es t)
       record {
         zeros = zeros;
         used = used ∙ sym (length-map (ofTable t ps) bucketOf);
-        stand = all-image (Stands (2 * count t ps) (slotsAt img (place t))) bucketOf one (ofTable t ps) (to-table _ t ps names);
+        stand = all-image (Stands (2 * count t ps) (bucketAt img (place t))) bucketOf one (ofTable t ps) (to-table _ t ps names);
       }
     where
-      one : (p : Placed) → (Free p × InBucket img p) × (tableOf (hashOf (p .entry .name)) ≡ t) → Stands (2 * count t ps) (slotsAt img (place t)) (bucketOf p)
+      one : (p : Placed) → (Free p × InBucket img p) × (tableOf (hashOf (p .entry .name)) ≡ t) → Stands (2 * count t ps) (bucketAt img (place t)) (bucketOf p)
       one p (r, e) =
           let d = rw e at (bucket-facts img (bucketOf p) (r .1)) in
           rw (row-place img (endIn img n) (row t h) (omega (arith, d .inside)) ∙ place-is t h, numbers t h) at d

@@ -17,7 +17,7 @@ use Rattle.image.proofs.Sizes.{length-entryBytes, length-image}
 use Rattle.reader.specs.Open.{opening}
 use Rattle.lists.proofs.Parse.{AllWordSized}
 use Rattle.canonical.specs.Canonical.{counted, putsIn}
-use Rattle.canonical.specs.steps.Contracts.{CanonicalImage}
+use Rattle.canonical.specs.steps.Contracts.{CanonicalWithEntries}
 use Rattle.canonical.proofs.ReadBack.{all-wordly, ids-of, made-puts, canonical-only}
 
 -- `left` entries are ahead of the place `at`
@@ -44,7 +44,7 @@ unfolding putsIn
 puts-number img = length-entriesIn (counted (opening img)) (drop headSize img)
 
 module _ {P : ℕ → List Entry → Type 0} {img : List ℕ} where
-  pub ahead-starts : (n : ℕ) → AllBytes img → CanonicalImage img n → P headSize (putsIn img) → Ahead P img headSize n
+  pub ahead-starts : (n : ℕ) → AllBytes img → CanonicalWithEntries img n → P headSize (putsIn img) → Ahead P img headSize n
   ahead-starts n bytes c p =
       let m = canonical-only img bytes (c .canonical) in
       let puts = made-puts img m in

@@ -21,7 +21,7 @@ use Rattle.image.proofs.Bools.{and-first, and-second, and-both}
 use Rattle.image.proofs.AllOfList.{All}
 use Rattle.serialize.proofs.EntryAdded.{firstEmpty-below}
 use Rattle.canonical.specs.steps.HiddenBuckets.{putBucket, Stands}
-use Rattle.canonical.specs.steps.InPlace.{slotsAt}
+use Rattle.canonical.specs.steps.InPlace.{bucketAt}
 use Rattle.canonical.specs.Canonical.{modeIn}
 use Rattle.canonical.specs.steps.Checks.{inItsBucket, entryOk, entriesOk, notBefore, entriesTo, placedFrom, rowsOk, countsMatch, twoWay, entriesValid}
 use Rattle.canonical.specs.steps.Checks.{backWordsCounted, bodyOk}
@@ -37,9 +37,9 @@ module _ (img : List ℕ) (b : Bucket) where
   n = bucketNumber img (tableOf (b .hash))
 
   abbrev taken : ℕ
-  taken = putBucket n (slotsAt img o) b
+  taken = putBucket n (bucketAt img o) b
 
-  pub bucket-facts : inItsBucket img (b .hash) (b .at) ≡ true → Stands n (slotsAt img o) b
+  pub bucket-facts : inItsBucket img (b .hash) (b .at) ≡ true → Stands n (bucketAt img o) b
   unfolding inItsBucket
   bucket-facts h =
       let (some, hash, at) = and3-facts (not (eqb n 0)) (eqb (word img (o + 8 * taken)) (b .hash)) _ h in
@@ -52,7 +52,7 @@ module _ (img : List ℕ) (b : Bucket) where
         holds = λ i. record { hash = hash-is i; at = at-is i };
       }
 
-  pub bucket-checked : Stands n (slotsAt img o) b → inItsBucket img (b .hash) (b .at) ≡ true
+  pub bucket-checked : Stands n (bucketAt img o) b → inItsBucket img (b .hash) (b .at) ≡ true
   unfolding inItsBucket
   bucket-checked s =
       let hash-is = ap (λ (x : Bucket). x .hash) (s .holds) in

@@ -18,7 +18,7 @@ use Rattle.image.proofs.Sizes.{length-image}
 use Rattle.lookup_laws.proofs.ImageOpening.{letters-image, magic-image, size-image, backSizeAt-image, backOffsetAt-image}
 use Rattle.canonical.proofs.ReadBack.{flag-image}
 use Rattle.image.specs.declared.Mode.{Mode}
-use Rattle.canonical.specs.steps.InPlace.{slotsAt}
+use Rattle.canonical.specs.steps.InPlace.{bucketAt}
 use Rattle.canonical.proofs.InPlace.{InPlace}
 
 -- every back word is a word
@@ -48,7 +48,7 @@ module _ (mode : Mode) (es : List Entry) (fits : imageSize mode es ≤ 429496729
       (all-image Words bucketOf (λ p s. (hashOf-below (p .entry .name), omega (arith, length-image mode es, entry-fits (p .entry) (s .there))))
       (ofTable t ps) (all-filter (EntryAt (image mode es)) (inTable t) (placed headSize es) (all-entries-at mode es)))
 
-  table-filled : (t : ℕ) → t < 256 → Filled (2 * count t ps) (slotsAt (image mode es) (entriesEnd es + 16 * entriesBefore t ps)) (map bucketOf (ofTable t ps))
+  table-filled : (t : ℕ) → t < 256 → Filled (2 * count t ps) (bucketAt (image mode es) (entriesEnd es + 16 * entriesBefore t ps)) (map bucketOf (ofTable t ps))
   unfolding table ps bucketBytes
   table-filled t h = record {
     each = λ k m.

@@ -12,7 +12,7 @@ use Rattle.image.specs.Tables.{Filled}
 use Rattle.image.specs.declared.Mode.{Mode}
 use Rattle.image.proofs.At.{At}
 use Rattle.reader.specs.Open.{hasLetters}
-use Rattle.canonical.specs.steps.InPlace.{slotsAt, backWordAt}
+use Rattle.canonical.specs.steps.InPlace.{bucketAt, backWordAt}
 
 pub record InPlace (img : List ℕ) (mode : Mode) (es : List Entry) : Type 0 where
   pub letters : hasLetters img ≡ true
@@ -26,6 +26,6 @@ pub record InPlace (img : List ℕ) (mode : Mode) (es : List Entry) : Type 0 whe
       → (tableAt img t ≡ tableOffset (entriesEnd es) (placed headSize es) t) × (bucketNumber img t ≡ 2 * count t (placed headSize es))
   pub entries : At img headSize (cat entryBytes es)
   pub tables : (t : ℕ) → t < 256
-      → Filled (2 * count t (placed headSize es)) (slotsAt img (entriesEnd es + 16 * entriesBefore t (placed headSize es)))
+      → Filled (2 * count t (placed headSize es)) (bucketAt img (entriesEnd es + 16 * entriesBefore t (placed headSize es)))
       (map bucketOf (ofTable t (placed headSize es)))
   pub back-words : (i : ℕ) → i < backSizeOf mode es → backWord (placed headSize es) i ≡ backWordAt img (entriesEnd es + 16 * length es) i

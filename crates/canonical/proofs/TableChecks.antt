@@ -18,7 +18,7 @@ use Rattle.image.proofs.AllOfRange.{all-each, all-true}
 use Rattle.image.proofs.Bools.{false-not-true, and-first, and-second, and-both, or-false-first, or-false-second, chose-second}
 use Rattle.reader.specs.Open.{opening, hasLetters, somePastEnd}
 use Rattle.canonical.specs.steps.HiddenBuckets.{sumTo, usedTo}
-use Rattle.canonical.specs.steps.InPlace.{slotsAt}
+use Rattle.canonical.specs.steps.InPlace.{bucketAt}
 use Rattle.canonical.specs.steps.Checks.{clean, tableOk, rowCount, tablePlace, rowOk, rowsOk, countsMatch, TablesInside, TablesHeld}
 
 -- three tests hold
@@ -74,7 +74,7 @@ below-all f n each = all-true f 0 n (λ k l. let z : 0 + k ≡ k = omega arith i
 
 module _ (img : List ℕ) (o c : ℕ) where
   abbrev Zeros : Type 0
-  Zeros = (k : ℕ) → k < 2 * c → offsetAt img o k ≡ 0 → slotsAt img o k ≡ empty
+  Zeros = (k : ℕ) → k < 2 * c → offsetAt img o k ≡ 0 → bucketAt img o k ≡ empty
 
   pub table-facts : tableOk img o c ≡ true → Zeros × (usedTo (offsetAt img o) (2 * c) ≡ c)
   unfolding tableOk
@@ -82,7 +82,7 @@ module _ (img : List ℕ) (o c : ℕ) where
       let cleans = all (clean img o) 0 (2 * c) in
       ((λ k l z. zero k z (below-each (clean img o) (2 * c) k (and-first cleans _ h) l)), eqb-true _ c (and-second cleans _ h))
     where
-      zero : (k : ℕ) → offsetAt img o k ≡ 0 → clean img o k ≡ true → slotsAt img o k ≡ empty
+      zero : (k : ℕ) → offsetAt img o k ≡ 0 → clean img o k ≡ true → bucketAt img o k ≡ empty
       zero k z t =
           let e : word img (o + 8 * k) ≡ 0 = eqb-true (word img (o + 8 * k)) 0 (rw (eq-eqb (offsetAt img o k) 0 z) at t) in
           λ i. record { hash = e i; at = z i }

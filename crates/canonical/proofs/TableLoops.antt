@@ -118,8 +118,8 @@ module _ {img : List ℕ} {end o t : ℕ} (p : CheckRowsPre img end) (r : Rows i
       ap (λ (o : ℕ). eqb (bucketNumber img t) (2 * rowCount img t) && eqb (tableAt img t) (cond (eqb (rowCount img t) 0) 0 o) && tableOk img o (rowCount img t))
       (sym (r .place))
 
-  pub row-number : (Number → ⊥) → false ≡ rowsOk img end
-  row-number d = all-fail (rowOk img end) t more (row-is ∙ rw (ne-eqb (bucketNumber img t) (2 * rowCount img t) d)) (r .same)
+  pub table-buckets : (Number → ⊥) → false ≡ rowsOk img end
+  table-buckets d = all-fail (rowOk img end) t more (row-is ∙ rw (ne-eqb (bucketNumber img t) (2 * rowCount img t) d)) (r .same)
 
   module _ (even : Number) where
     number-yes : eqb (bucketNumber img t) (2 * rowCount img t) ≡ true

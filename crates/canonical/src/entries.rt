@@ -1,7 +1,7 @@
-// One walk over the entries. Each is whole, its name has no zero byte, it is in the bucket that its put took, and in
-// a two-way image its id's back word, the word in the back array, is not below its offset. A put took the first bucket
-// of its probe sequence that was empty then. Offsets rise in put order, so in the finished table that bucket is the
-// first that is empty or has an offset at or after the entry's own.
+// One walk over the entries checks that each is whole, that its name has no zero byte, that it is in the bucket that
+// its put took, and in a two-way image that its id's word in the back array is not below its offset. A put took the
+// first bucket of its probe sequence that was empty then. Offsets rise in put order, so in the finished table that is
+// the first bucket that is empty or has an offset at or after the entry's own.
 ghost use mathlib.Core.Path.{_≡_};
 ghost use Rattle.canonical.specs.steps.Checks.{TablesHeld, inItsBucket, entryName, nameOk, notBefore};
 ghost use Rattle.canonical.specs.steps.Contracts.{CheckEntryPre, OneIf, CheckEntriesPre, EntriesFound};
@@ -67,7 +67,7 @@ fn one_if_equal(w: u32, at: usize) -> u64
 pub struct EntriesChecked {
     pub valid: bool,
     pub back: u64,
-    pub linked: u64,
+    pub lasts: u64,
 }
 
 // Checks `entries` entries from 2,072 to `end` and counts them by table. The back array is at o.
@@ -87,14 +87,14 @@ pub(super) fn check_entries(
     let mut at = HEAD_SIZE;
     let mut left = entries;
     let mut back: u64 = 0;
-    let mut linked: u64 = 0;
+    let mut lasts: u64 = 0;
     while left > 0 {
         let n = whole_length(image, at, end);
         if n == 0 {
             return EntriesChecked {
                 valid: false,
                 back: 0,
-                linked: 0,
+                lasts: 0,
             };
         }
         let h = hash_or_zero(name_at(image, at, n));
@@ -104,18 +104,18 @@ pub(super) fn check_entries(
             return EntriesChecked {
                 valid: false,
                 back: 0,
-                linked: 0,
+                lasts: 0,
             };
         }
         raise(&mut *counts, h);
         back = larger(back, id as u64 + 1);
-        linked += one_if_equal(w, at);
+        lasts += one_if_equal(w, at);
         at += 8 + n;
         left -= 1;
     }
     EntriesChecked {
         valid: at == end,
         back,
-        linked,
+        lasts,
     }
 }

@@ -33,9 +33,10 @@ fn back_for(two: bool, back: u64) -> u64
     if two { back } else { 0 }
 }
 
-// Is all behind the head valid, if the entries end at `end`? The rows come first: a table is read only if its row has
-// the right offset, so that no byte is read as part of two tables. Each back word is the offset of its id's last entry:
-// no entry is behind its id's back word, and as many back words are not 0 as entries have one that points to them.
+// Is everything after the head valid, if the entries end at `end`? The rows are checked first: a table is read only if
+// its row has the right offset, so no byte is read as part of two tables. Each back word is the offset of its id's
+// last entry exactly if none is below the offset of an entry of its id, and as many back words are above 0 as there
+// are entries whose offset is their id's back word.
 fn check_body(image: &[u8], n: u32, end: usize, back: usize) -> bool
     requires { ⌜ CheckBodyPre (now image) end back ⌝ }
     ensures { λ r. ⌜ r ≡ bodyOk (now (image .entry)) n end back ⌝ }
@@ -59,11 +60,11 @@ fn check_body(image: &[u8], n: u32, end: usize, back: usize) -> bool
     if !two {
         return true;
     }
-    count_used(image, o, back) as u64 == found.linked
+    count_used(image, o, back) as u64 == found.lasts
 }
 
 // Is an image that opens, with n entries, canonical? Its size says where the entries end: 16 bytes of tables for each
-// entry and 4 for each back word are behind them.
+// entry and 4 for each back word follow them.
 fn check_opened(image: &[u8], n: u32) -> bool
     requires { ⌜ opening (now image) ≡ value n ⌝ }
     ensures { λ r. ⌜ r ≡ canonical (now (image .entry)) ⌝ }

@@ -17,7 +17,7 @@ use image::size_or_zero;
 use image::word_or_zero;
 
 // The number of buckets of table t, by its row.
-fn row_number(image: &[u8], t: usize) -> usize
+fn table_buckets(image: &[u8], t: usize) -> usize
     requires { ⌜ t < 256 ⌝ }
     ensures { λ r. ⌜ SizeRead (now (image .entry)) (28 + 8 * t) r ⌝ }
 {
@@ -46,7 +46,7 @@ pub(super) fn used_bit(w: u32) -> usize
     if w == 0 { 0 } else { 1 }
 }
 
-// Are both words of the bucket at b zero, if it is empty? Both are read: which buckets are empty is unpredictable.
+// Is the bucket at b used, or are both its words zero? Both words are always read: a branch would be mispredicted.
 fn clean_bucket(image: &[u8], b: usize) -> bool
     requires { ⌜ b + 8 ≤ length (now image) ⌝ }
     ensures { λ r. ⌜
@@ -74,8 +74,8 @@ fn check_table(image: &[u8], o: usize, c: usize) -> bool
     clean & (used == c)
 }
 
-// Are the tables one after the other from `end` on, each with twice as many buckets as it uses? None reaches past the
-// end of the image.
+// Are the tables one after the other from `end` on, each with twice as many buckets as it uses? The caller knows that
+// none reaches past the end of the image: opening has checked it.
 pub(super) fn check_rows(image: &[u8], end: usize) -> bool
     requires { ⌜ CheckRowsPre (now image) end ⌝ }
     ensures { λ r. ⌜ r ≡ rowsOk (now (image .entry)) end ⌝ }
@@ -83,7 +83,7 @@ pub(super) fn check_rows(image: &[u8], end: usize) -> bool
     let mut o = end;
     let mut t: usize = 0;
     while t < 256 {
-        let number = row_number(image, t);
+        let number = table_buckets(image, t);
         let c = number / 2;
         if number != 2 * c {
             return false;
@@ -113,7 +113,7 @@ pub(super) fn counts_match(image: &[u8], counts: &[u32; 256]) -> bool
 {
     let mut t: usize = 0;
     while t < 256 {
-        if row_number(image, t) != buckets_for(counts[t]) {
+        if table_buckets(image, t) != buckets_for(counts[t]) {
             return false;
         }
         t += 1;

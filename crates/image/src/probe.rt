@@ -29,7 +29,7 @@ fn hide(before: u64, w: u32) -> u32
     if (w as u64) < before { w } else { 0 }
 }
 
-// The first of the n buckets at o, from bucket k on, that is empty or has an offset from `before` on; bucket 0 where
+// The first of the n buckets at o, from bucket k on, that is empty or has an offset at or after `before`; bucket 0 if
 // there is none. Before the entry at `before` was put, this was the first empty one.
 pub fn first_empty_before(buf: &[u8], o: usize, n: usize, k: usize, before: u64) -> usize
     requires { ⌜ FirstEmptyPre (now buf) o n k ⌝ }

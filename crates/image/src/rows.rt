@@ -14,7 +14,7 @@ pub fn table_at(buf: &[u8], h: u32) -> usize
     size_or_zero(buf, TABLE_OFFSETS_AT + ROW_SIZE * ((h % 256) as usize))
 }
 
-// How many buckets it has.
+// The number of buckets of a hash's table.
 pub fn bucket_number(buf: &[u8], h: u32) -> usize
     ensures { λ r. ⌜ SizeRead (now (buf .entry)) (28 + 8 * tableOf h) r ⌝ }
 {

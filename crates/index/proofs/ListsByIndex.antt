@@ -84,7 +84,7 @@ size-kept {s} {words} {e} {r} {u} {mid} p =
 module _ (mode : Mode) (repeats : Repeats) where
   -- what the list of demand 3 that a run comes to answers and leaves
   record Comes (l : Plain) (t : State) : Type 0 where
-    otherwise : answersOf mode repeats (l .buffer) (l .calls) ≡ l .answers
+    same-answers : answersOf mode repeats (l .buffer) (l .calls) ≡ l .answers
     leaves : t ≡ afterList mode repeats (l .buffer) (l .calls)
 
   record Along (m n : ℕ) (es : List Entry) (l : Plain) (cs : List Step) (rs : List ℕ) (t : State) (words′ : List ℕ) : Type 0 where
@@ -137,7 +137,7 @@ module _ (mode : Mode) (repeats : Repeats) where
   along [] m l es s words left right size word [] t words′ run =
       record {
         answered = refl;
-        comes = record { otherwise = left .answers; leaves = run .0 ∙ left .state };
+        comes = record { same-answers = left .answers; leaves = run .0 ∙ left .state };
         right = subst (λ (u : State). Right u words′) (sym (run .0)) (subst (Right s) (sym (run .1)) right);
       }
   along [] m l es s words left right size word (r ∷ rs) t words′ run = absurd run
@@ -311,7 +311,7 @@ module _ (mode : Mode) (repeats : Repeats) (buffer words : List ℕ) (rs : List 
       let a = along mode repeats cs (slotCount words) none-yet [] (fresh mode repeats buffer) words fresh-left right refl word rs t words′ run in
       record {
         answered = a .answered;
-        otherwise = a .comes .otherwise;
+        same-answers = a .comes .same-answers;
         leaves = a .comes .leaves;
         right = a .right;
         enough = λ few. subst NoneFull (sym (a .answered)) (enough-none mode repeats cs (slotCount words) (length buffer) [] few);
@@ -329,7 +329,7 @@ module _ (mode : Mode) (repeats : Repeats) (buffer words : List ℕ) (rs : List 
       let whole = plain-calls none-yet cs rs (ap length (a .answered) ∙ length-due mode repeats n (slotCount words) cs []) none in
       let left : t ≡ afterList mode repeats buffer cs = a .leaves ∙ ap (λ (l : Plain). afterList mode repeats (l .buffer) (l .calls)) whole in
       let answers-are : rs ≡ answersOf mode repeats buffer cs =
-      sym (sym (ap (λ (l : Plain). answersOf mode repeats (l .buffer) (l .calls)) whole) ∙ a .otherwise ∙ ap (λ (l : Plain). l .answers) whole) in
+      sym (sym (ap (λ (l : Plain). answersOf mode repeats (l .buffer) (l .calls)) whole) ∙ a .same-answers ∙ ap (λ (l : Plain). l .answers) whole) in
       record {
         due-is = answers-are ∙ list-answers mode repeats buffer room cs word;
         answers = answers-are;

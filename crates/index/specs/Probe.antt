@@ -7,17 +7,18 @@ use Rattle.image.specs.Tables.{Bucket}
 use Rattle.reader.specs.Lookup.{Probe, pass, ends, hit, probeEntry}
 use Rattle.index.specs.Index.{slotCount, slotAt, slotSequence}
 
--- has the entry at an offset this name?
+-- did the comparison with an entry find the name?
 abbrev pub isHit : Probe → Bool
 isHit pass = false
 isHit ends = false
 isHit (hit found) = true
 
+-- has the entry at an offset this name?
 abbrev pub hasNameAt : List ℕ → List ℕ → ℕ → Bool
 hasNameAt bytes name at = isHit (probeEntry bytes name at)
 
--- a probe of m slots for a hash, along some of them: m + 1 if v says that an entry of the hash has the name,
--- otherwise the first empty slot, m if there is none
+-- a probe of m slots for the hash h, along some of them: the first empty slot, or m + 1 if a slot before it has the
+-- hash and an offset at which v says that the entry has the name; m if neither is met
 unfoldable pub probeAlong : ℕ → (ℕ → Bucket) → ℕ → (ℕ → Bool) → List ℕ → ℕ
 probeAlong m b h v [] = m
 probeAlong m b h v (k ∷ ks) =

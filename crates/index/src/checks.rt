@@ -1,5 +1,5 @@
-// What a put checks beside the search for its name. Of the counts it looks at one: in a record that close would accept
-// none exceeds the entries.
+// What a put checks apart from the search for its name. Of the counts it reads only that of the name's table: in a
+// record that close would accept, no count exceeds the number of entries.
 ghost use mathlib.Core.Path.{_≡_};
 ghost use Rattle.writer.specs.steps.Storing.{SizeWithPre};
 ghost use Rattle.index.specs.Refusals.{earlyRefusal, lateRefusal};
@@ -29,9 +29,9 @@ pub(super) fn early_refusal(w: CQDBWriter, buf: &[u8], name: &[u8]) -> u32
     0
 }
 
-// The refusals that come after it, of a name of n bytes with hash h: 3 when the image would be too large, and 2 when
-// the count of the name's table has no room for one more; 0 for none. The counts are lent and may be anything. The
-// check of the size has bounded the number of entries, so such a count is above it, and put refuses that with 2.
+// The refusals that come after the search, for a name of n bytes with hash h: 3 when the image would be too large, and
+// 2 when the count of the name's table is the largest word; 0 for none. The counts are lent and may be anything. The
+// size check bounds the number of entries below such a count, so `writer::put` refuses the record with 2 as well.
 pub(super) fn late_refusal(w: CQDBWriter, counts: &[u32; 256], n: usize, id: u32, h: u32) -> u32
     requires { ⌜ SizeWithPre (w .end) n ⌝ }
     ensures { λ r. ⌜ r ≡ lateRefusal w (now (counts .entry)) n id h ⌝ }

@@ -104,8 +104,8 @@ fn decide(
     }
 }
 
-// Appends an entry and with repeats off stores its slot, or is refused and changes nothing. By a right index it does
-// what put does.
+// Appends an entry and with repeats off stores its slot, or is refused and changes nothing. With a right index it does
+// what `writer::put` does, but refuses with 24 where put would accept, repeats are off and every slot is taken.
 pub fn put_indexed(
     w: CQDBWriter,
     counts: &mut [u32; 256],
@@ -131,8 +131,8 @@ pub fn put_indexed(
     RecordAnswer { refusal: 0, writer }
 }
 
-// Inserts the entries of the buffer into empty slots, in put order. Internal: the caller knows that the entries are
-// whole and that there is a slot for each.
+// Inserts the entries of the buffer into cleared slots, in put order. The caller knows that the entries are whole and
+// that there is a slot for each, so neither early return is reached.
 fn fill(buf: &[u8], end: usize, entries: u32, slots: &mut [u32])
     requires { ⌜ FillPre (now buf) end entries (now slots) ⌝ }
     ensures { λ _. ⌜ SlotsFilled (now (buf .entry)) end entries (now (slots .entry)) (now (slots .exit)) ⌝ }

@@ -14,7 +14,7 @@ use Rattle.image.specs.declared.Mode.the-variants.{Twoway, Oneway}
 use Rattle.image.specs.steps.Contracts.{NameRead}
 use Rattle.reader.specs.Lookup.{lookup}
 use Rattle.lookup_laws.specs.Answer.{foundId, nameGiven}
-use Rattle.canonical.specs.steps.Contracts.{CanonicalImage}
+use Rattle.canonical.specs.steps.Contracts.{CanonicalWithEntries}
 use Rattle.canonical.proofs.EntriesAhead as ahead
 use Rattle.canonical.proofs.EntriesAhead.{Ahead, Turn, ahead-starts, ahead-ends, ahead-next, length-is}
 use Rattle.one_to_one.specs.OneToOne.{isId, isName, asked, kindOf, kindIn, Failure, firstFailure, firstFailureIn}
@@ -24,7 +24,7 @@ use Rattle.one_to_one.proofs.Failures.{failure, passes, ends}
 abbrev pub First : List ℕ → ℕ → List Entry → Type 0
 First img at es = firstFailure (kindIn img) at es ≡ firstFailureIn img
 
-pub walk-starts : {img : List ℕ} (n : ℕ) → AllBytes img → CanonicalImage img n → Ahead (First img) img headSize n
+pub walk-starts : {img : List ℕ} (n : ℕ) → AllBytes img → CanonicalWithEntries img n → Ahead (First img) img headSize n
 unfolding firstFailureIn
 walk-starts n bytes c = ahead-starts n bytes c refl
 

@@ -5,7 +5,7 @@ ghost use Rattle.jhash.specs.Outcome.{value};
 ghost use Rattle.image.specs.declared.Mode.the-variants.{Twoway, Oneway};
 ghost use Rattle.reader.specs.Lookup.{lookup};
 ghost use Rattle.lookup_laws.specs.Answer.{foundId, nameGiven};
-ghost use Rattle.canonical.specs.steps.Contracts.{CanonicalImage};
+ghost use Rattle.canonical.specs.steps.Contracts.{CanonicalWithEntries};
 ghost use Rattle.one_to_one.specs.OneToOne.{isId, isName, asked, firstFailureIn, oneToOne, oneToOneOf};
 use canonical::entry_count;
 use canonical::is_canonical;
@@ -55,7 +55,7 @@ fn gives_name(image: &[u8], twoway: bool, id: u32, name: &[u8]) -> bool
 
 // The first of the n entries of a canonical image that fails.
 fn first_failure(image: &[u8], n: u32) -> OneToOne
-    requires { ⌜ CanonicalImage (now image) n ⌝ }
+    requires { ⌜ CanonicalWithEntries (now image) n ⌝ }
     ensures { λ r. ⌜ oneToOneOf r ≡ value (firstFailureIn (now (image .entry))) ⌝ }
 {
     let twoway = word_or_zero(image, FLAG_AT) == 0;

@@ -11,7 +11,7 @@ use Rattle.jhash.specs.Outcome.{Outcome, value, refusal}
 use Rattle.image.proofs.Bools.{false-not-true}
 use Rattle.reader.specs.Open.{opening}
 use Rattle.canonical.specs.Canonical.{canonical, counted}
-use Rattle.canonical.specs.steps.Contracts.{CanonicalImage}
+use Rattle.canonical.specs.steps.Contracts.{CanonicalWithEntries}
 use Rattle.canonical.proofs.EntriesAhead.{puts-number}
 use Rattle.search_length.specs.declared.AverageLength.{AverageLength}
 use Rattle.search_length.specs.steps.Contracts.{Counted}
@@ -62,7 +62,7 @@ module _ {image : List ℕ} {n : ℕ} {own : Bool} {r : ℕ} (q : Asked image n 
   pub some-entries : r ≡ 0 → 0 < n
   some-entries z = first-zero own n (sym (q .first-is) ∙ z) .1
 
-  pub accepted : r ≡ 0 → CanonicalImage image n
+  pub accepted : r ≡ 0 → CanonicalWithEntries image n
   accepted z = record { canonical = sym (q .canonical-is) ∙ first-zero own n (sym (q .first-is) ∙ z) .0; number = q .number }
 
   pub averaged : {counts : List ℕ} {sum : ℕ} → r ≡ 0 → Counted image counts sum

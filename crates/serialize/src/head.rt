@@ -56,7 +56,7 @@ fn offset_or_zero(count: u64, o: u64) -> u64
 }
 
 // The rows of the 256 tables, of which the first with entries begins at `end`, and where each table begins. One loop
-// does both: of 100 names it would be 3 % of a list in one call to have two.
+// does both: two loops would cost 3 % of a list of 100 names in one call.
 pub(super) fn write_rows(buf: &mut [u8], counts: &[u32; 256], end: u32, places: &mut [u32; 256])
     requires { ⌜ 2072 ≤ length (now buf) ⌝ }
     ensures { λ _. ⌜

@@ -15,7 +15,7 @@ use super::insert::insert_pair;
 use image::Mode;
 use jhash::word::word;
 
-// The pairs of a small table. A copy of so many is cleared in no time.
+// The most pairs of a small table, whose copy is cheap to clear.
 const FEW_PAIRS: usize = 32;
 
 // The same, as counts are stored.
@@ -142,8 +142,8 @@ pub(super) fn insert_singly(
     insert_entries(mode, back_offset, &mut *buf, end, entries, stop)
 }
 
-// Does close fill tables from pairs? Not of few entries, where to insert them one by one takes a fifth less time at
-// 400, and not where a table has more pairs than the copy on the stack has room for.
+// Does close fill tables from pairs? Not for few entries, since one by one they take a fifth less time at 400, and not
+// where a table has more pairs than the copy on the stack has room for.
 pub(super) fn by_tables(counts: &[u32; 256], entries: u32) -> bool
     ensures { λ r. ⌜ r ≡ byTables (now (counts .entry)) entries ⌝ }
 {

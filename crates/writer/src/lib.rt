@@ -7,7 +7,6 @@ ghost use Rattle.writer.specs.Close.{closeRefusal, closing, closedOf, af
 ghost use Rattle.writer.specs.Grown.{grownRefusal, grownWriter};
 ghost use Rattle.writer.specs.steps.Closing.{WriteClosedPost};
 use image::HEAD_SIZE;
-use image::HEAD_SIZE_64;
 use image::Mode;
 use jhash::refusals::INCONSISTENT;
 use jhash::refusals::NO_ROOM;
@@ -72,14 +71,7 @@ pub fn begin(mode: Mode, repeats: Repeats, counts: &mut [u32; 256], buf: &[u8]) 
         return Begun::Refused(TOO_SHORT);
     }
     *counts = [0; 256];
-    Begun::Fresh(CQDBWriter {
-        mode,
-        repeats,
-        length: buf.len() as u64,
-        end: HEAD_SIZE_64,
-        entries: 0,
-        back: 0,
-    })
+    Begun::Fresh(record::fresh_writer(mode, repeats, buf.len()))
 }
 
 // The number of the refusal that is due to a put, 0 where it is accepted. All of put's decision stands here.

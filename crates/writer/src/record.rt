@@ -1,12 +1,27 @@
-// The writer record: whether it fits a buffer, and its numbers after a put.
+// The writer record: a fresh one, whether one fits a buffer, and its numbers after a put.
 ghost use mathlib.Core.Path.{_≡_};
 ghost use Prim.Native.Nat.{_≤_};
-ghost use Rattle.writer.specs.State.{stateWith, inBuffer, fits, tooLarge, finishedSize};
+ghost use Rattle.writer.specs.State.{stateWith, freshWriter, inBuffer, fits, tooLarge, finishedSize};
 ghost use Rattle.writer.specs.Put.{backAfter, writerAfterPut};
 ghost use Rattle.writer.specs.steps.Storing.{SizeWithPre};
 use super::CQDBWriter;
+use super::Repeats;
 use image::HEAD_SIZE_64;
 use image::Mode;
+
+// A fresh record for a buffer of `length` bytes.
+pub fn fresh_writer(mode: Mode, repeats: Repeats, length: usize) -> CQDBWriter
+    ensures { λ r. ⌜ r ≡ freshWriter mode repeats length ⌝ }
+{
+    CQDBWriter {
+        mode,
+        repeats,
+        length: length as u64,
+        end: HEAD_SIZE_64,
+        entries: 0,
+        back: 0,
+    }
+}
 
 // Whether the record has this buffer's length, and an end from 2,072 to that length. Counts are not compared.
 pub fn in_buffer(w: CQDBWriter, buf: &[u8]) -> bool

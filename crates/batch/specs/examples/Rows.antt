@@ -27,7 +27,7 @@ abbrev pub roundRows : List RoundRow
 roundRows =
     -- no names
     row [] [] (nines 2) (value 0) (nines 2)
-    -- the empty name twice; the fourth to last word belongs to no name
+    -- the empty name twice; the ninth word belongs to no answer
     ∷ row [] (0 ∷ 0 ∷ []) (nines 9) (value 0) (0 ∷ 0 ∷ 0 ∷ 0 ∷ 0 ∷ 0 ∷ 0 ∷ 0 ∷ 9 ∷ [])
     -- A, then an end that falls; an end that passes the bytes by one; one exactly at their end
     ∷ row (65 ∷ []) (1 ∷ 0 ∷ []) (nines 8) (refusal 14) (nines 8)

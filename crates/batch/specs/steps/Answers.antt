@@ -7,7 +7,7 @@ use lib.ListN.{length, getD, set}
 use Rattle.image.specs.Image.{headSize}
 use Rattle.reader.specs.Lookup.{lookup}
 use Rattle.reader.specs.Naming.{Naming, lengthIn}
-use Rattle.batch.specs.RoundNames.{names, invalidEnds, nth}
+use Rattle.batch.specs.RoundNames.{mostNames, names, invalidEnds, nth}
 use Rattle.batch.specs.Round.{answerWords, roundWords, roundBuckets}
 use Rattle.batch.specs.steps.Duplicates.{Listed, RisingTo, HashedNames, EqualBefore, IsFirst, IsUnique}
 use Rattle.batch.specs.steps.Probing.{SearchOpen, SearchDecided}
@@ -43,7 +43,7 @@ abbrev pub HasAnswer : List ℕ → List (List ℕ) → List ℕ → ℕ → Typ
 HasAnswer image xs answers i = Has answers i (answerWords (lookup image (nth xs i)))
 
 pub record AnswerAllPre (bytes ends answers : List ℕ) : Type 0 where
-  pub few : length ends ≤ 512
+  pub few : length ends ≤ mostNames
   pub valid : invalidEnds (length bytes) 0 ends ≡ false
   pub places : length answers ≡ 4 * length ends
 
@@ -73,7 +73,7 @@ pub record ListedNames (bytes ends hashes list answers : List ℕ) (m : ℕ) : T
   pub rising : RisingTo list m
   pub names : HashedNames bytes ends hashes
   pub places : 4 * length ends ≤ length answers
-  pub few : m ≤ 512
+  pub few : m ≤ mostNames
   pub capacity : m ≤ length list
   pub below : (x : ℕ) → x < m → getD list x 0 < length ends
 
@@ -111,7 +111,7 @@ pub record UniqueAnswered (image : List ℕ) (xs : List (List ℕ)) (equals answ
 
 -- for each of n names the number of an equal one before it, counted from 1, or 0; and the names' places
 pub record EqualsPre (equals answers : List ℕ) (n : ℕ) : Type 0 where
-  pub few : n ≤ 512
+  pub few : n ≤ mostNames
   pub inside : n ≤ length equals
   pub places : 4 * n ≤ length answers
   pub earlier : (i : ℕ) → i < n → getD equals i 0 ≤ i

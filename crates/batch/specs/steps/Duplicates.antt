@@ -5,7 +5,7 @@ use mathlib.Core.Bool.{false}
 use mathlib.Core.List.{List, map}
 use lib.ListN.{length, getD, take}
 unfoldable pub use Rattle.jhash.specs.NameHash.{hashOrZero}
-use Rattle.batch.specs.RoundNames.{names, invalidEnds, different, nth}
+use Rattle.batch.specs.RoundNames.{mostNames, names, invalidEnds, different, nth}
 use Rattle.batch.specs.steps.Slots.{SlotsHold}
 
 -- x where q is 0, else 0
@@ -38,7 +38,7 @@ pub record HashNamesPre (bytes ends hashes : List ℕ) : Type 0 where
 -- the packed names of a round, with their hashes
 pub record HashedNames (bytes ends hashes : List ℕ) : Type 0 where
   pub valid : invalidEnds (length bytes) 0 ends ≡ false
-  pub few : length ends ≤ 512
+  pub few : length ends ≤ mostNames
   pub capacity : length ends ≤ length hashes
   pub hashed : Hashes (names bytes ends) hashes
 

@@ -8,6 +8,7 @@ use Rattle.image.specs.Image.{headSize}
 use Rattle.reader.specs.Lookup.{nothing, probeEntry, decide, lookupHash}
 use Rattle.reader.specs.steps.Resume.{searchFrom}
 use Rattle.batch.specs.steps.Duplicates.{Listed, RisingTo}
+use Rattle.batch.specs.RoundNames.{mostNames}
 
 -- the search for the hash h is open after c buckets: what is left of it answers what the whole search does, whatever
 -- the name
@@ -45,7 +46,7 @@ pub record NextProbed (image : List ℕ) (h c offset on : ℕ) : Type 0 where
 pub record PassPre (image hashes live done offsets : List ℕ) (c q : ℕ) : Type 0 where
   pub head : headSize ≤ length image
   pub small : c < 512
-  pub few : q ≤ 512
+  pub few : q ≤ mostNames
   pub live-capacity : q ≤ length live
   pub done-capacity : q ≤ length done
   pub offsets-capacity : q ≤ length offsets

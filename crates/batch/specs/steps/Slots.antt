@@ -14,11 +14,15 @@ bucketOfNumber hashes q = record { hash = getD (0 ∷ hashes) q 0; at = q }
 abbrev pub roundSlot : List ℕ → List ℕ → ℕ → Bucket
 roundSlot hashes slots k = bucketOfNumber hashes (getD slots k 0)
 
+-- how many slots there are
+abbrev pub slotNumber : ℕ
+slotNumber = 4096
+
 -- the slots hold some of the first i names, among them one that equals each
 pub record SlotsHold (xs : List (List ℕ)) (hashes slots : List ℕ) (i : ℕ) : Type 0 where
   pub held : List ℕ
-  pub size : length slots ≡ 4096
-  pub filled-with : Filled 4096 (roundSlot hashes slots) (map (λ (u : ℕ). bucketOfNumber hashes (u + 1)) held)
+  pub size : length slots ≡ slotNumber
+  pub filled-with : Filled slotNumber (roundSlot hashes slots) (map (λ (u : ℕ). bucketOfNumber hashes (u + 1)) held)
   pub few : length held ≤ i
   pub below : Each (λ (u : ℕ). u < i) held
   pub covers : (y : List ℕ) → Each (λ (u : ℕ). nth xs u ≡ y → ⊥) held

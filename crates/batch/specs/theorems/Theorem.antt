@@ -20,7 +20,7 @@ Distinct xs = (i j : ℕ) → i < j → j < length xs → nth xs i ≡ nth xs j 
 abbrev pub placeAt : List ℕ → ℕ → List ℕ
 placeAt answers i = take 4 (drop (4 * i) answers)
 
--- a round that is accepted, with its names and the answer list afterwards
+-- a round that is accepted, with its bucket count
 pub record RoundAccepted (image bytes ends answers : List ℕ) : Type 0 where
   pub count : ℕ
   pub given : roundOutcome image bytes ends (length answers / 4) ≡ value count

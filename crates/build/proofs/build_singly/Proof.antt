@@ -22,10 +22,10 @@ start c = c .before .before .before .before .before .before .before
 abbrev sized : tie.After-clear-words → tie.After-scratch-for-index
 sized c = c .before .before .before
 
-abbrev cleared : tie.After-begun → tie.After-clear-words
+abbrev cleared : tie.After-fresh-writer → tie.After-clear-words
 cleared c = c .before .before .before
 
-abbrev opened : tie.After-put-list → tie.After-begun
+abbrev opened : tie.After-put-list → tie.After-fresh-writer
 opened c = c .before .before .before .before
 
 abbrev begun : tie.After-put-list → tie.Start
@@ -47,7 +47,7 @@ leaves : (c : tie.After-put-list) → let a = begun c .args in
 leaves c =
     let a = begun c .args in
     c .put-list .ensures .leaves
-    ∙ ap (λ (x : CQDBWriter). afterList (x .mode) (x .repeats) (a .buf .now) (listed (a .bytes .now) (a .ends .now) (a .ids .now))) (opened c .begun .ensures)
+    ∙ ap (λ (x : CQDBWriter). afterList (x .mode) (x .repeats) (a .buf .now) (listed (a .bytes .now) (a .ends .now) (a .ids .now))) (opened c .fresh-writer .ensures)
 
 -- ---- the needs
 
@@ -61,7 +61,7 @@ put-list-requires c κs =
     let long : length (z .clear-words .last .0) ≡ i .scratch-for-index .result = z .clear-words .kept .0 ∙ slots-long i in
     record {
       list = s .pre;
-      begun = begun-fresh (a .mode) (a .repeats) (a .buf .now) _ _ refl (b .begun .ensures);
+      begun = begun-fresh (a .mode) (a .repeats) (a .buf .now) _ _ refl (b .fresh-writer .ensures);
       cleared = all-zero (z .clear-words .last .0) (i .scratch-for-index .result) long (z .clear-words .ensures .zero);
       enough = λ some. omega (arith, i .scratch-for-index .ensures .enough (omega (arith, some, long)), long);
     }
@@ -81,7 +81,7 @@ returns c =
     let cs = listed (a .bytes .now) (a .ends .now) (a .ids .now) in
     list-built (a .mode) (a .repeats) (s .pre) (word-ids p) (leaves p) (f .finish-list .ensures)
     (p .put-list .ensures .answers
-    ∙ ap (λ (x : CQDBWriter). answersOf (x .mode) (x .repeats) (a .buf .now) cs ++ drop (length (a .ends .now)) (a .refusals .now)) (opened p .begun .ensures))
+    ∙ ap (λ (x : CQDBWriter). answersOf (x .mode) (x .repeats) (a .buf .now) cs ++ drop (length (a .ends .now)) (a .refusals .now)) (opened p .fresh-writer .ensures))
 
 pub build-singly-spec : {M : Type 1} → statement M
 build-singly-spec =

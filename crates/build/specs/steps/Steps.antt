@@ -25,11 +25,6 @@ use Rattle.build.specs.steps.Capacity.{Capacity}
 abbrev pub entriesListed : List (List ℕ) → List ℕ → List Entry
 entriesListed xs ids = puts (callsOf xs ids)
 
--- a fresh record
-abbrev pub begunWith : Mode → Repeats → ℕ → CQDBWriter
-begunWith mode repeats n =
-    record { mode = mode; repeats = repeats; length = n; end = headSize; entries = 0; back = 0 }
-
 -- a list that is not refused as a whole
 pub record ListPre (buffer bytes ends ids refusals : List ℕ) : Type 0 where
   pub packed : invalidEnds (length bytes) 0 ends ≡ false

@@ -129,7 +129,7 @@ returns-6 c =
       eq-eqb _ _ (t .before .if4 .left ∙ back b),
       sym (two (flagged (checked e))) ∙ not-false _ (t .if5 .left),
     )
-    (ap₂ eqb (c .before .count-used .ensures) (checked e .check-entries .ensures .linked (not-false _ (e .if2 .left))))
+    (ap₂ eqb (c .before .count-used .ensures) (checked e .check-entries .ensures .lasts (not-false _ (e .if2 .left))))
 
 pub check-body-spec : {M : Type 1} → statement M
 check-body-spec =

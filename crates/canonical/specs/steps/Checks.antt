@@ -107,6 +107,9 @@ twoWay img = eqb (word img 8) 0
 abbrev pub notBefore : Bool → ℕ → ℕ → Bool
 notBefore two at w = not (two && ltb w at)
 
+-- ---- all entries
+
+-- an entry's back word, name and bucket are right; the back array is at o
 abbrev pub entryOk : List ℕ → Bool → ℕ → Placed → Bool
 entryOk img two o p = notBefore two (p .at) (backWordAt img o (p .entry .id)) && nameOk img (p .at) (p .entry .name)
 

@@ -60,7 +60,7 @@ pub record EntriesFound (img : List ℕ) (end entries : ℕ) (two : Bool) (o : �
     (r : EntriesChecked) : Type 0 where
   pub valid : r .valid ≡ entriesValid img end entries two o
   pub back : r .valid ≡ true → r .back ≡ backSize (entriesTo img end entries)
-  pub linked : r .valid ≡ true → r .linked ≡ ownBackWords (backWordAt img o) (placedFrom img end entries headSize)
+  pub lasts : r .valid ≡ true → r .lasts ≡ ownBackWords (backWordAt img o) (placedFrom img end entries headSize)
   pub by-table : r .valid ≡ true → counts ≡ tallied counts₀ (entriesTo img end entries)
 
 pub record CheckBodyPre (img : List ℕ) (end back : ℕ) : Type 0 where
@@ -71,6 +71,6 @@ pub record CheckBodyPre (img : List ℕ) (end back : ℕ) : Type 0 where
 -- ---- for the crates above
 
 -- a canonical image, which has n entries
-pub record CanonicalImage (img : List ℕ) (n : ℕ) : Type 0 where
+pub record CanonicalWithEntries (img : List ℕ) (n : ℕ) : Type 0 where
   pub canonical : canonical img ≡ true
   pub number : n ≡ counted (opening img)

@@ -37,7 +37,7 @@ pub record CanonicalImage (img : List ℕ) : Type 0 where
   pub made : (buffer : List ℕ) → length img ≤ length buffer
       → (acceptedPuts (modeIn img) On buffer (putAll (putsIn img)) ≡ putsIn img)
       × (imageOf (modeIn img) On buffer (putAll (putsIn img)) ≡ img)
-  -- with one byte or more behind it, or missing at its end, it is not canonical
+  -- with one byte or more after it, or with its last bytes missing, it is not canonical
   pub alone : (more : List ℕ) → AllBytes (img ++ more) → (more ≡ [] → ⊥)
       → canonical (img ++ more) ≡ false
   pub cut : (k : ℕ) → k < length img → canonical (take k img) ≡ false

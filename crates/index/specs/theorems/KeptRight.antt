@@ -20,7 +20,7 @@ pub record KeptRight : Type 0 where
   -- cleared slots are a right index of a fresh record
   pub fresh-right : (mode : Mode) (repeats : Repeats) (buffer words : List ℕ) → headSize ≤ length buffer
       → ((i : ℕ) → getD words i 0 ≡ 0) → Right (fresh mode repeats buffer) words
-  -- with repeats on any words are
+  -- with repeats on, any words are a right index of it
   pub fresh-any : (mode : Mode) (buffer words : List ℕ) → headSize ≤ length buffer → Right (fresh mode On buffer) words
   -- a close keeps it right
   pub close-right : (s : State) (words : List ℕ) → Bytes s

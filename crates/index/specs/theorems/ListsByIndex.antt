@@ -7,6 +7,7 @@ use mathlib.Core.Bool.{true, cond, _&&_}
 use mathlib.Core.List.{List, [], _∷_, _++_, map}
 use lib.ListN.{length, replicate}
 use lib.Dec.{eqb, ltb, leb}
+use Rattle.jhash.specs.Refusals as refused
 use Rattle.image.specs.declared.Mode.{Mode}
 use Rattle.image.specs.Image.{Entry, headSize}
 use Rattle.writer.specs.declared.Repeats.{Repeats}
@@ -56,13 +57,13 @@ Run s words (anew lent ∷ cs) (r ∷ rs) t words′ =
 -- 24 where a put would be accepted and m puts are
 abbrev pub dueToIndexed : ℕ → Mode → Repeats → ℕ → List Entry → Call → ℕ
 dueToIndexed m mode repeats n es (put e) =
-    cond (refusesRepeats repeats && (eqb (putDue mode repeats n es e) 0 && leb m (length es))) 24
+    cond (refusesRepeats repeats && (eqb (putDue mode repeats n es e) 0 && leb m (length es))) refused.indexFull
     (putDue mode repeats n es e)
 dueToIndexed m mode repeats n es close = 0
 
 -- to making an index of m slots: 24 when more puts are accepted
 abbrev pub dueToAnew : ℕ → List Entry → ℕ
-dueToAnew m es = cond (ltb m (length es)) 24 0
+dueToAnew m es = cond (ltb m (length es)) refused.indexFull 0
 
 -- a buffer that grows changes its length n, an index made anew the number m of slots
 unfoldable pub dueIndexed : ℕ → Mode → Repeats → ℕ → List Entry → List Step → List ℕ
@@ -87,7 +88,7 @@ pub record Plain : Type 0 where
 -- one with the accepted puts (`LongerBuffer`); making an index is no call of it
 abbrev pub plainAfter : Plain → Step → ℕ → Plain
 plainAfter l (call c) r =
-    cond (eqb r 24) l
+    cond (eqb r refused.indexFull) l
     (record { buffer = l .buffer; calls = l .calls ++ (c ∷ []); answers = l .answers ++ (r ∷ []) })
 plainAfter l (grow longer) r =
     record {
@@ -122,17 +123,17 @@ Enough m mode repeats n es (anew lent ∷ cs) =
 -- no call is answered by 24
 abbrev pub NoneFull : List ℕ → Type 0
 NoneFull [] = Unit {0}
-NoneFull (r ∷ rs) = (r ≡ 24 → ⊥) × NoneFull rs
+NoneFull (r ∷ rs) = (r ≡ refused.indexFull → ⊥) × NoneFull rs
 
 -- ---- the theorem
 
--- what is said of one run, from a fresh record and an index that is right for it: cleared slots are (`right-fresh`)
+-- what holds of one run from a fresh record and a right index of it, as cleared slots are (`KeptRight.fresh-right`)
 pub record RunByIndex (mode : Mode) (repeats : Repeats) (buffer words : List ℕ) (cs : List Step) (rs : List ℕ)
     (t : State) (words′ : List ℕ) : Type 0 where
   -- each step is answered as is due
   pub answered : rs ≡ dueIndexed (slotCount words) mode repeats (length buffer) [] cs
   -- the list of demand 3 that it comes to has, by puts without an index, the same answers, and leaves the same
-  pub otherwise : answersOf mode repeats (plainOf buffer cs rs .buffer) (plainOf buffer cs rs .calls)
+  pub same-answers : answersOf mode repeats (plainOf buffer cs rs .buffer) (plainOf buffer cs rs .calls)
       ≡ plainOf buffer cs rs .answers
   pub leaves : t ≡ afterList mode repeats (plainOf buffer cs rs .buffer) (plainOf buffer cs rs .calls)
   -- and the index is right

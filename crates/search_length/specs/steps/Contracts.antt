@@ -3,7 +3,7 @@ use Prim.Native.Nat.{ℕ, _<_}
 use mathlib.Core.Path.{_≡_}
 use mathlib.Core.List.{List}
 use lib.ListN.{getD, replicate}
-use Rattle.canonical.specs.steps.Contracts.{CanonicalImage}
+use Rattle.canonical.specs.steps.Contracts.{CanonicalWithEntries}
 use Rattle.search_length.specs.SearchLengths.{binOf}
 use Rattle.search_length.specs.Average.{total, lengthsOf}
 
@@ -17,7 +17,7 @@ pub record RaisePre (counts : List ℕ) (k : ℕ) : Type 0 where
 
 -- a canonical image of n entries, and 16 counts that are 0
 pub record CountPre (img : List ℕ) (n : ℕ) (counts : List ℕ) : Type 0 where
-  pub own : CanonicalImage img n
+  pub own : CanonicalWithEntries img n
   pub zeros : counts ≡ replicate 16 0
 
 -- the counts and the total of its entries

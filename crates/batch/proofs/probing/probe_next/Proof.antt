@@ -50,7 +50,7 @@ returns-2 c =
       of-offset = read .before .word .ensures;
       of-hash = read .word2 .ensures;
       is-open = s .pre .is-open;
-    }) (c .passes .ensures)
+    }) (c .goes-past .ensures)
 
 pub probe-next-spec : {M : Type 1} → statement M
 probe-next-spec =

@@ -16,11 +16,11 @@ use Rattle.canonical.proofs.entries.check_entries.Statement.{statement}
 use Rattle.canonical.proofs.entries.check_entries.Tie as tie
 
 abbrev Inv-loop : tie.InvT-loop
-Inv-loop image end entries two o counts₀ at₀ left₀ back₀ linked₀ counts at left back linked =
-    Entering image end entries two o counts₀ at left back linked counts
+Inv-loop image end entries two o counts₀ at₀ left₀ back₀ lasts₀ counts at left back lasts =
+    Entering image end entries two o counts₀ at left back lasts counts
 
 abbrev μ-loop : tie.MeasureT-loop
-μ-loop image end entries two o counts₀ at₀ left₀ back₀ linked₀ counts at left back linked = left
+μ-loop image end entries two o counts₀ at₀ left₀ back₀ lasts₀ counts at left back lasts = left
 
 -- ---- places: a turn of the loop; a whole entry, its hash, its two checks; a valid entry
 
@@ -78,7 +78,7 @@ read c =
       hash-is = hash-is (hashed c);
       id-is = c .before .before .before .size-or-zero .ensures .is;
       back-word-is = c .before .before .word-or-zero .ensures;
-      linked-is = c .before .not-before .ensures;
+      ahead-is = c .before .not-before .ensures;
       named-is = c .check-entry .ensures;
     }
 

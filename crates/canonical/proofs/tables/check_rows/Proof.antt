@@ -11,7 +11,7 @@ use lib.Dec.{eqb}
 use Rattle.image.specs.Head.{tableAt, bucketNumber}
 use Rattle.canonical.specs.steps.Checks.{rowCount, rowOk, tableOk}
 use Rattle.canonical.specs.steps.Contracts.{CheckRowsPre}
-use Rattle.canonical.proofs.TableLoops.{Rows, rows-start, row-number, table-offset, row-room, row-table, row-next, all-passed}
+use Rattle.canonical.proofs.TableLoops.{Rows, rows-start, table-buckets, table-offset, row-room, row-table, row-next, all-passed}
 use Rattle.canonical.proofs.tables.check_rows.Statement.{statement}
 use Rattle.canonical.proofs.tables.check_rows.Tie as tie
 
@@ -34,11 +34,11 @@ abbrev row : tie.In-loop Inv-loop μ-loop → ℕ
 row c = c .before .loop .t
 
 -- the number of entries, and that the number of buckets is even
-count : (c : tie.After-row-number Inv-loop μ-loop) → c .row-number .result / 2 ≡ rowCount (image-of (c .before)) (row (c .before))
-count c = ap (λ (n : ℕ). n / 2) (c .row-number .ensures .is)
+count : (c : tie.After-table-buckets Inv-loop μ-loop) → c .table-buckets .result / 2 ≡ rowCount (image-of (c .before)) (row (c .before))
+count c = ap (λ (n : ℕ). n / 2) (c .table-buckets .ensures .is)
 
 even : (c : tie.Else1 Inv-loop μ-loop) → bucketNumber (image-of (in-loop c)) (row (in-loop c)) ≡ 2 * rowCount (image-of (in-loop c)) (row (in-loop c))
-even c = rw (c .before .row-number .ensures .is) at (c .if1 .left)
+even c = rw (c .before .table-buckets .ensures .is) at (c .if1 .left)
 
 -- the offset that the table must have
 wanted : (c : tie.After-offset-or-zero Inv-loop μ-loop)
@@ -54,7 +54,7 @@ there c = sym (c .before .before .table-offset .ensures .is) ∙ c .if2 .left �
 -- the table lies in the image
 room : (c : tie.Else2 Inv-loop μ-loop)
     → let l = in-loop (c .before .before .before) in
-    l .before .loop .o + 16 * (c .before .before .before .before .row-number .result / 2) ≤ length (image-of l)
+    l .before .loop .o + 16 * (c .before .before .before .before .table-buckets .result / 2) ≤ length (image-of l)
 room c =
     let e = c .before .before .before in
     let t = in-loop e in
@@ -74,7 +74,7 @@ loop-holds c = rows-start (c .before .pre)
 returns : tie.Need-returns Inv-loop μ-loop
 returns c =
     let t = c .before .before in
-    row-number (pre-of t) (t .before .loop .inv) (t .loop-test .taken) (λ e. c .if1 .taken (rw (c .before .row-number .ensures .is) e))
+    table-buckets (pre-of t) (t .before .loop .inv) (t .loop-test .taken) (λ e. c .if1 .taken (rw (c .before .table-buckets .ensures .is) e))
 
 returns-2 : tie.Need-returns-2 Inv-loop μ-loop
 returns-2 c =

@@ -38,7 +38,7 @@ returns c =
     let row = c .before .before .before in
     let l = row .before in
     all-fail (matches (l .before)) (l .before .loop .t) (l .loop-test .taken)
-    (ne-eqb _ _ (λ e. c .if1 .taken (row .row-number .ensures .is ∙ e ∙ sym (c .before .buckets-for .ensures)))) (l .before .loop .inv .same)
+    (ne-eqb _ _ (λ e. c .if1 .taken (row .table-buckets .ensures .is ∙ e ∙ sym (c .before .buckets-for .ensures)))) (l .before .loop .inv .same)
 
 loop-again : tie.Need-loop-again Inv-loop μ-loop
 loop-again c =
@@ -48,7 +48,7 @@ loop-again c =
       few = omega (arith, l .loop-test .taken);
       same =
           all-pass (matches (l .before)) (l .before .loop .t) (l .loop-test .taken)
-          (eq-eqb _ _ (sym (row .row-number .ensures .is) ∙ c .if1 .left ∙ c .before .buckets-for .ensures)) (l .before .loop .inv .same);
+          (eq-eqb _ _ (sym (row .table-buckets .ensures .is) ∙ c .if1 .left ∙ c .before .buckets-for .ensures)) (l .before .loop .inv .same);
     }
 
 returns-2 : tie.Need-returns-2 Inv-loop μ-loop

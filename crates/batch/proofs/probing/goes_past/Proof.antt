@@ -1,7 +1,7 @@
--- `batch::probing::passes` meets its contract. Assumes nothing.
+-- `batch::probing::goes_past` meets its contract. Assumes nothing.
 use Rattle.batch.proofs.Probes.{not-passed, is-passed}
-use Rattle.batch.proofs.probing.passes.Statement.{statement}
-use Rattle.batch.proofs.probing.passes.Tie as tie
+use Rattle.batch.proofs.probing.goes_past.Statement.{statement}
+use Rattle.batch.proofs.probing.goes_past.Tie as tie
 
 returns : tie.Need-returns
 returns c = let a = c .before .args in not-passed (a .hash) (a .h) (a .offset) (c .if1 .taken)
@@ -9,8 +9,8 @@ returns c = let a = c .before .args in not-passed (a .hash) (a .h) (a .offset) (
 returns-2 : tie.Need-returns-2
 returns-2 c = let a = c .before .args in is-passed (a .hash) (a .h) (a .offset) (c .if1 .left)
 
-pub passes-spec : {M : Type 1} → statement M
-passes-spec =
+pub goes-past-spec : {M : Type 1} → statement M
+goes-past-spec =
     tie.close
     (tie.spec
     returns
