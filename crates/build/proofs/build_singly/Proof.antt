@@ -47,7 +47,8 @@ leaves : (c : tie.After-put-list) → let a = begun c .args in
 leaves c =
     let a = begun c .args in
     c .put-list .ensures .leaves
-    ∙ ap (λ (x : CQDBWriter). afterList (x .mode) (x .repeats) (a .buf .now) (listed (a .bytes .now) (a .ends .now) (a .ids .now))) (opened c .fresh-writer .ensures)
+    ∙ ap (λ (x : CQDBWriter). afterList (x .mode) (x .repeats) (a .buf .now) (listed (a .bytes .now) (a .ends .now) (a .ids .now)))
+    (opened c .fresh-writer .ensures)
 
 -- ---- the needs
 
@@ -81,7 +82,8 @@ returns c =
     let cs = listed (a .bytes .now) (a .ends .now) (a .ids .now) in
     list-built (a .mode) (a .repeats) (s .pre) (word-ids p) (leaves p) (f .finish-list .ensures)
     (p .put-list .ensures .answers
-    ∙ ap (λ (x : CQDBWriter). answersOf (x .mode) (x .repeats) (a .buf .now) cs ++ drop (length (a .ends .now)) (a .refusals .now)) (opened p .fresh-writer .ensures))
+    ∙ ap (λ (x : CQDBWriter). answersOf (x .mode) (x .repeats) (a .buf .now) cs ++ drop (length (a .ends .now)) (a .refusals .now))
+    (opened p .fresh-writer .ensures))
 
 pub build-singly-spec : {M : Type 1} → statement M
 build-singly-spec =
