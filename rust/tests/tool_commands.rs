@@ -76,9 +76,9 @@ fn references_before_walls() {
     let told = "cqdb: order: pairs, line 2: not the id of a reference, a space and the id of a wall prism: \"2\"\n";
     order("").gives(2).tells(told);
     folder.write("pairs", "");
-    let none = "no   the round keeps references before walls: there is no pair, so nothing was compared\n";
-    order("1\n7\n").gives(1).prints(none).tells("");
-    order("").gives(1).prints(none).tells("");
+    let none = "yes  the round keeps references before walls: there is no pair, so nothing was compared\n";
+    order("1\n7\n").gives(0).prints(none).tells("");
+    order("").gives(0).prints(none).tells("");
 }
 
 #[test]

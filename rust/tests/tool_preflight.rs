@@ -286,17 +286,17 @@ fn a_wall_before_its_reference() {
     asked(&folder, &format!("--pairs pairs {LAST}")).gives(1).prints(wanted).tells("");
 }
 
-/// A file without a pair holds the report back; where no wall of a pair is sighted, the yes is seen to be about nothing.
+/// Where there is no pair, or no wall of a pair is sighted, the yes is seen to be about nothing.
 #[test]
 fn pairs_that_compare_nothing() {
     let folder = folder();
     let (question, nothing) = ("the round keeps references before walls", "so nothing was compared");
+    let has = |out: &[u8], text: String| assert!(String::from_utf8_lossy(out).contains(&text), "{text}");
     folder.write("pairs", "");
-    let wanted = yes(10) + &format!("yes{SHEET_NAMED}\nno       {question}: there is no pair, {nothing}\n");
-    asked(&folder, &format!("--pairs pairs {LAST}")).gives(1).prints(wanted).tells("");
+    let ran = asked(&folder, &format!("--pairs pairs {LAST}")).gives(0).tells("");
+    has(&ran.out, format!("yes      {question}: there is no pair, {nothing}\n"));
     folder.write("pairs", "0 47\n");
     let ran = asked(&folder, &format!("--pairs pairs {LAST}")).gives(0).tells("");
-    let has = |out: &[u8], text: String| assert!(String::from_utf8_lossy(out).contains(&text), "{text}");
     has(&ran.out, format!("yes      {question}: no wall of a pair is sighted, {nothing}\n"));
     let ran = asked(&folder, &format!("--json --pairs pairs {LAST}")).gives(0).tells("");
     has(&ran.out, format!("\"text\":\"{question}\",\"yes\":true,\"compared\":0}}"));

@@ -18,9 +18,9 @@ Prints a line: yes or no. PAIRS has a line for each pair, the id of a reference,
 space and the id of a wall prism; ROUND has an id to a line, in the order in which
 they are sighted. A pair is kept where its wall prism is not sighted, or its
 reference is sighted before. The exit status is 1 where a pair is not kept; the
-first one is named. It is 1 too where there is no pair: a yes about nothing is none.
-Where the round has no id, or no wall prism of a pair is sighted, the line says that
-nothing was compared. The time grows with the number of pairs times that of ids.
+first one is named. Where there is no pair, the round has no id, or no wall prism of
+a pair is sighted, the yes says that nothing was compared. The time grows with the
+number of pairs times that of ids.
 ",
     options: &[INCOMPLETE, WINDOWS],
     operands: (2, 2),
@@ -48,12 +48,12 @@ pub fn pairs(args: &Args, path: &Path) -> Result<Vec<Pair>, Failure> {
     Lines::of_list(args, Some(path.as_os_str()), b'\n')?.parsed(args, form, pair)
 }
 
-/// Does a round keep every pair? Not where there is none to keep; and where the round has no id, or no wall of a pair
-/// is sighted, the yes says so.
+/// Does a round keep every pair? Where there is no pair, the round has no id, or no wall of a pair is sighted, the yes
+/// says that nothing was compared.
 pub fn kept(pairs: &[Pair], round: &[u32]) -> Said {
     let no = |why: String| Said::No(why, Vec::new());
     match references_first(pairs, round) {
-        Order::Yes if pairs.is_empty() => no("there is no pair, so nothing was compared".to_string()),
+        Order::Yes if pairs.is_empty() => Said::YesAboutNothing("there is no pair, so nothing was compared"),
         Order::Yes if round.is_empty() => NONE_SIGHTED,
         Order::Yes => match pairs.iter().any(|pair| round.contains(&pair.wall)) {
             true => Said::Yes,

@@ -48,7 +48,7 @@ These lines follow:
 
       every id of the sheet has a name
       the round keeps references before walls
-                           with --pairs, of which there must be one
+                           with --pairs
   11  every sighted id has a window that holds both dates
                            with --validity, --date and --last-date
 
