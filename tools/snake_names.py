@@ -4,7 +4,7 @@
 usage: tools/snake_names.py          at the top of the checkout, once, after port.py
 
 A definition, lemma, field or constructor of specs/ and proofs/ loses its inner capitals and its dashes: nameHash is name_hash,
-zero-after is zero_after. A dash stays between two words that are both names of definitions, as in length-drop. The modules
+zero-after is zero_after. A dash stays between two names of definitions that the dash alone keeps apart, as in entries_size-append. The modules
 steps, theorems and examples of specs/ become Steps, Theorems and Examples. Types, modules, functions of src/ and strings keep
 their names. Comments and documents follow where they quote a name. What falls together in one file is printed and keeps its name.
 """
@@ -15,8 +15,7 @@ import subprocess
 import sys
 
 FOLDERS = {"steps": "Steps", "theorems": "Theorems", "examples": "Examples"}
-STD = set("length take drop get_or map append replicate set sets reverse sum fold filter head tail last cons snoc zip all any "
-          "eqb ltb leb cond not and or add sub mul div mod pow max min suc zero bit_and bit_or bit_xor repeat slice_index".split())
+STD = set("length take drop get_or map append replicate reverse sum fold filter snoc cons slice_index".split())
 TOKEN = re.compile(r"[\w'₀-₉\-]+")
 BOUND = {
     True: re.compile(r"\b(?:let (?:mut )?|for )(\w+)|\b(\w+): [&\w\[]"),
@@ -72,7 +71,7 @@ def spell(name, words):
     new = [p if p[:1].isupper() else snake(p) for p in parts]
     out = new[0]
     for a, b, oa, ob in zip(new, new[1:], parts, parts[1:]):
-        both = all(w in words or w in STD or w[:1].isupper() for w in (a, b))
+        both = all(w in STD or w in words and "_" in w or w[:1].isupper() for w in (a, b))
         out += ("-" if both else "_") + b
     return out
 
@@ -98,6 +97,7 @@ def main():
         tokens[p] = set(TOKEN.findall(text))
         bound[p] = {x for pair in BOUND[p.endswith(".rt")].findall(text) for x in pair if x}
     clash, again = set(), True
+    code = set().union(*(ts for p, ts in tokens.items() if p.endswith(".rt")))
     while again:
         again = False
         for p, ts in tokens.items():
@@ -108,15 +108,20 @@ def main():
                 if len(olds) < 2 and n not in bound[p]:
                     continue
                 moved = [t for t in olds if t in names]
-                free = n not in olds or n not in bound[p]
-                camel = [t for t in moved if "-" not in t]
-                keep = camel[:1] if free and (camel or n not in olds) else []
-                if n not in olds and not camel:
-                    keep = moved[:1]
-                for t in moved:
-                    if t not in keep:
+                if not moved:
+                    continue
+                if n in bound[p]:
+                    for t in moved:
                         clash.add((t, names.pop(t), p))
                         again = True
+                    continue
+                camel = [t for t in moved if "-" not in t]
+                keep = (camel or moved)[0]
+                for t in olds:
+                    if t == keep or t == n and (t not in terms or t in code):
+                        continue
+                    names[t] = n + "_lem"
+                    again = True
     for x, n, p in sorted(clash):
         print(f"kept: {x} (not {n}): {p}")
 

@@ -9,8 +9,8 @@ use lib.Seq.{get_or-set_same, get_or-set_other, get_or-take, get_or-drop, ext_ge
 use Rattle.image.specs.Bytes.{cat}
 use Rattle.reader.specs.Lookup.{Lookup, found, nothing, lookup_by, lookup}
 use Rattle.reader.proofs.Searches.{lookup_own}
-use Rattle.image.proofs.NameEnds.{length-names}
-use Rattle.jhash.proofs.Outcomes.{hash_or-zero_short}
+use Rattle.image.proofs.NameEnds.{length_names}
+use Rattle.jhash.proofs.Outcomes.{hash_or_zero_short}
 use Rattle.batch.specs.RoundNames.{names, nth}
 use Rattle.batch.specs.Round.{answer_words}
 use Rattle.batch.specs.Steps.Duplicates.{hash_or_zero, Listed, RisingTo, IsFirst, IsUnique}
@@ -117,7 +117,7 @@ length_words (nothing n) = refl
 -- a lookup with a name's hash is the name's
 by_hash : (image name x : List ℕ) (h : ℕ) → name ≡ x → h ≡ hash_or_zero x → lookup_by image name h ≡ lookup image x
 by_hash image name x h e k =
-    ap (λ (l : List ℕ). lookup_by image l h) e ∙ lookup_own image x h (λ short. k ∙ hash_or-zero_short x short)
+    ap (λ (l : List ℕ). lookup_by image l h) e ∙ lookup_own image x h (λ short. k ∙ hash_or_zero_short x short)
 
 -- the first x of m listed names have their answers
 pub record Finding (image bytes ends list before after : List ℕ) (m x : ℕ) : Type 0 where
@@ -180,7 +180,7 @@ module _ {bytes ends hashes list before : List ℕ} {m : ℕ} (pre : ListedNames
       i = get_or list x 0
 
       own : v ≡ lookup image (nth xs i)
-      own = answer ∙ by_hash image name (nth xs i) (get_or hashes i 0) is (pre.names.hashed i (omega (arith, length-names bytes ends, pre.below x h)))
+      own = answer ∙ by_hash image name (nth xs i) (get_or hashes i 0) is (pre.names.hashed i (omega (arith, length_names bytes ends, pre.below x h)))
 
       stays : (j : ℕ) → ((j ≡ i → ⊥) → HasAnswer image xs answers j) → HasAnswer image xs (put_words answers i (answer_words v)) j
       stays j r =
@@ -204,8 +204,8 @@ pub record Kept (image bytes ends list before after : List ℕ) (m : ℕ) : Type
   pub stays : (i : ℕ) → HasAnswer image (names bytes ends) before i → HasAnswer image (names bytes ends) after i
   pub others : (i : ℕ) → (Listed list m i → ⊥) → Has after i (words_in before i)
 
-pub kept-start : (image bytes ends list before : List ℕ) (m : ℕ) → Kept image bytes ends list before before m
-kept-start image bytes ends list before m = record { stays = λ i r. r; others = λ i n w h. sym (words_at before i w h) }
+pub kept_start : (image bytes ends list before : List ℕ) (m : ℕ) → Kept image bytes ends list before before m
+kept_start image bytes ends list before m = record { stays = λ i r. r; others = λ i n w h. sym (words_at before i w h) }
 
 pub kept_step : {image bytes ends list part before answers after : List ℕ} {m q : ℕ} → ((z : ℕ) → z < q → Listed list m (get_or part z 0))
     → Kept image bytes ends list before answers m → Answered image bytes ends part answers after q → Kept image bytes ends list before after m

@@ -19,22 +19,22 @@ use Rattle.batch.specs.Theorems.Theorem.{Distinct, OnceEach}
 
 -- ---- among
 
-among-append : (y : List ℕ) (xs zs : List (List ℕ)) → among y (xs ++ zs) ≡ (among y xs || among y zs)
+among_append : (y : List ℕ) (xs zs : List (List ℕ)) → among y (xs ++ zs) ≡ (among y xs || among y zs)
 unfolding among
-among-append y [] zs = refl
-among-append y (x ∷ xs) zs = ap (λ (t : Bool). same x y || t) (among-append y xs zs) ∙ sym (or_assoc (same x y) (among y xs) (among y zs))
+among_append y [] zs = refl
+among_append y (x ∷ xs) zs = ap (λ (t : Bool). same x y || t) (among_append y xs zs) ∙ sym (or_assoc (same x y) (among y xs) (among y zs))
 
-among-last : (y x : List ℕ) (xs : List (List ℕ)) → among y (xs ++ x ∷ []) ≡ (among y xs || same x y)
+among_last : (y x : List ℕ) (xs : List (List ℕ)) → among y (xs ++ x ∷ []) ≡ (among y xs || same x y)
 unfolding among
-among-last y x xs = among-append y xs (x ∷ []) ∙ ap (λ (t : Bool). among y xs || t) (or-false (same x y))
+among_last y x xs = among_append y xs (x ∷ []) ∙ ap (λ (t : Bool). among y xs || t) (or-false (same x y))
 
 -- a name that is not among some and one more
 not_seen : (y x : List ℕ) (xs : List (List ℕ)) → among y (xs ++ x ∷ []) ≡ false → among y xs ≡ false
-not_seen y x xs e = or_false_first (among y xs) (same x y) (sym (among-last y x xs) ∙ e)
+not_seen y x xs e = or_false_first (among y xs) (same x y) (sym (among_last y x xs) ∙ e)
 
 not_last : (y x : List ℕ) (xs : List (List ℕ)) → among y (xs ++ x ∷ []) ≡ false → x ≡ y → ⊥
 not_last y x xs e p =
-    false_not_true (sym (or_false_second (among y xs) (same x y) (sym (among-last y x xs) ∙ e)) ∙ ap (λ (l : List ℕ). same l y) p ∙ same_self y)
+    false_not_true (sym (or_false_second (among y xs) (same x y) (sym (among_last y x xs) ∙ e)) ∙ ap (λ (l : List ℕ). same l y) p ∙ same_self y)
 
 -- ---- whether a name is among those before it
 
@@ -78,10 +78,10 @@ last_from (y ∷ ys) seen x =
     (last_from ys (seen ++ y ∷ []) x ∙ ap (λ (l : List (List ℕ)). rest ++ new_only (among x l) x []) (append_assoc seen (y ∷ []) ys))
     ∙ new_behind (among y seen) y rest (new_only (among x (seen ++ y ∷ ys)) x [])
 
-pub different-next : (xs : List (List ℕ)) (i : ℕ) (t : Bool) → i < length xs → among (nth xs i) (take i xs) ≡ t
+pub different_next : (xs : List (List ℕ)) (i : ℕ) (t : Bool) → i < length xs → among (nth xs i) (take i xs) ≡ t
     → different (take (i + 1) xs) ≡ different (take i xs) ++ new_only t (nth xs i) []
 unfolding different
-different-next xs i t h e =
+different_next xs i t h e =
     ap (λ (k : ℕ). different (take k xs)) (add-one i)
     ∙ ap different (take-suc xs i [] h)
     ∙ last_from (take i xs) [] (nth xs i)
@@ -131,10 +131,10 @@ module _ (x : List ℕ) where
   unfolding among
   kept_one seen y ys rest true e h =
       same_seen (among x seen) (same y x) (among x rest) (among x ys) (λ p. ap (λ (l : List ℕ). among l seen) (sym (same_true y x p)) ∙ e)
-      (sym (ap (λ (t : Bool). t || among x rest) (among-last x y seen)) ∙ h ∙ ap (λ (t : Bool). t || among x ys) (among-last x y seen))
+      (sym (ap (λ (t : Bool). t || among x rest) (among_last x y seen)) ∙ h ∙ ap (λ (t : Bool). t || among x ys) (among_last x y seen))
   kept_one seen y ys rest false e h =
       same_one (among x seen) (same y x) (among x rest) (among x ys)
-      (sym (ap (λ (t : Bool). t || among x rest) (among-last x y seen)) ∙ h ∙ ap (λ (t : Bool). t || among x ys) (among-last x y seen))
+      (sym (ap (λ (t : Bool). t || among x rest) (among_last x y seen)) ∙ h ∙ ap (λ (t : Bool). t || among x ys) (among_last x y seen))
 
   kept_from : (ys seen : List (List ℕ)) → (among x seen || among x (different_from seen ys)) ≡ (among x seen || among x ys)
   unfolding among different_from
@@ -173,10 +173,10 @@ all_from (x ∷ xs) seen new two =
   where
     later : (i : ℕ) → i < length xs → among (nth xs i) (seen ++ x ∷ []) ≡ false
     later i h =
-        among-last (nth xs i) x seen
+        among_last (nth xs i) x seen
         ∙ ap (λ (t : Bool). t || same x (nth xs i)) (new (suc i) (omega arith))
         ∙ same_false x (nth xs i) (λ p. two 0 (suc i) (omega arith) (omega arith) p)
 
-pub all-different : (image : List ℕ) (xs : List (List ℕ)) → Distinct xs → buckets_read image (different xs) ≡ buckets_read image xs
+pub all_different : (image : List ℕ) (xs : List (List ℕ)) → Distinct xs → buckets_read image (different xs) ≡ buckets_read image xs
 unfolding different among
-all-different image xs two = ap (buckets_read image) (all_from xs [] (λ i h. refl) two)
+all_different image xs two = ap (buckets_read image) (all_from xs [] (λ i h. refl) two)

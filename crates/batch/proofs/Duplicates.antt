@@ -10,19 +10,19 @@ use lib.ListN.{length, get_or, set, take, length-set, length-map, length-append}
 use lib.Seq.{get_or-set_same, get_or-set_other, take-suc, take-set-le}
 use Rattle.image.specs.Bytes.{same}
 use Rattle.image.specs.Tables.{Bucket, empty, start, probe_sequence, first_empty, insert_all, filled}
-use Rattle.image.proofs.AllOfList.{All, all_map, all-image, all_append, all_middle}
+use Rattle.image.proofs.AllOfList.{All, all_map, all_image, all_append, all_middle}
 use Rattle.image.proofs.Bools.{false_not_true}
-use Rattle.image.proofs.Buckets.{get_or_empties, filled-all}
+use Rattle.image.proofs.Buckets.{get_or_empties, filled_all}
 use Rattle.image.proofs.Equal.{same_true, same_self}
-use Rattle.image.proofs.Sizes.{length-filled}
+use Rattle.image.proofs.Sizes.{length_filled}
 use Rattle.lookup_laws.specs.Steps.HasMatch.{has_match}
 use Rattle.lookup_laws.proofs.TableContents.{NotEmpty}
 use Rattle.batch.specs.RoundNames.{different_from, different, nth}
 use Rattle.batch.specs.Steps.Slots.{bucket_of_number, round_slot, SlotsHold}
 use Rattle.batch.specs.Steps.Duplicates.{IfZero, Listed, hash_or_zero, Hashes, EqualBefore, FoundOrInserted, Deduplicated}
-use Rattle.batch.proofs.IndexLists.{listed-old, listed-new, each_step, rising_step}
-use Rattle.batch.proofs.Different.{seen_before, not_seen_before, different-next}
-use Rattle.lookup_laws.proofs.SlotSearch.{none-empty, none_equal, filled_next}
+use Rattle.batch.proofs.IndexLists.{listed_old, listed_new, each_step, rising_step}
+use Rattle.batch.proofs.Different.{seen_before, not_seen_before, different_next}
+use Rattle.lookup_laws.proofs.SlotSearch.{none_empty, none_equal, filled_next}
 
 -- ---- hashes
 
@@ -60,9 +60,9 @@ slots_empty xs hashes slots size clear =
       covers = λ y none j l. absurd (omega arith);
     }
 
-all-before : {A : Type 0} (P : A → Type 0) (xs ys : List A) → All P (xs ++ ys) → All P xs
-all-before P [] ys all = tt
-all-before P (x ∷ xs) ys all = (all.0, all-before P xs ys all.1)
+all_before : {A : Type 0} (P : A → Type 0) (xs ys : List A) → All P (xs ++ ys) → All P xs
+all_before P [] ys all = tt
+all_before P (x ∷ xs) ys all = (all.0, all_before P xs ys all.1)
 
 -- the hash of a name, from its number
 pub hash_of_number : (hashes : List ℕ) (u : ℕ) → get_or (0 ∷ hashes) (u + 1) 0 ≡ get_or hashes u 0
@@ -87,7 +87,7 @@ module _ {xs : List (List ℕ)} {hashes slots : List ℕ} {i : ℕ} (ks : Hashes
   bs = map bucket s.held
 
   occupied : All NotEmpty bs
-  occupied = all-image NotEmpty bucket (λ u l z. omega arith) s.held s.below
+  occupied = all_image NotEmpty bucket (λ u l z. omega arith) s.held s.below
 
   fit : length bs ≤ i
   fit = omega (arith, length-map s.held bucket, s.few)
@@ -96,10 +96,10 @@ module _ {xs : List (List ℕ)} {hashes slots : List ℕ} {i : ℕ} (ks : Hashes
   pub slot_below : (k : ℕ) → k < 4096 → get_or slots k 0 ≤ i
   slot_below k l =
       subst (λ (b : Bucket). b.at ≤ i) (sym (s.filled_with.each k l))
-      (filled-all (λ (b : Bucket). b.at ≤ i) 4096 bs (omega arith) (all-image (λ (b : Bucket). b.at ≤ i) bucket (λ u l. omega arith) s.held s.below) k)
+      (filled_all (λ (b : Bucket). b.at ≤ i) 4096 bs (omega arith) (all_image (λ (b : Bucket). b.at ≤ i) bucket (λ u l. omega arith) s.held s.below) k)
 
   pub some_empty : All (λ (k : ℕ). NotEmpty (round_slot hashes slots k)) (probe_sequence 4096 4096 (start h 4096)) → ⊥
-  some_empty all = omega (arith, fit, none-empty s.filled_with (omega (arith, fit)) occupied h all)
+  some_empty all = omega (arith, fit, none_empty s.filled_with (omega (arith, fit)) occupied h all)
 
   pub found_equal : (q : ℕ) → 0 < q → q ≤ i → equal_to xs i q ≡ true → FoundOrInserted xs hashes slots i q
   found_equal q some low is =
@@ -142,7 +142,7 @@ module _ {xs : List (List ℕ)} {hashes slots : List ℕ} {i : ℕ} (ks : Hashes
           | yes e ↦
               ap (round_slot hashes (set slots k (i + 1))) e
               ∙ ap (bucket_of_number hashes) (get_or-set_same slots k (i + 1) 0 (omega (arith, s.size)))
-              ∙ sym (get_or-set_same (filled 4096 bs) k (bucket i) empty (omega (arith, length-filled 4096 bs)))
+              ∙ sym (get_or-set_same (filled 4096 bs) k (bucket i) empty (omega (arith, length_filled 4096 bs)))
               ∙ ap (λ (n : ℕ). get_or (set (filled 4096 bs) k (bucket i)) n empty) (sym e)
           | no e ↦
               ap (bucket_of_number hashes) (get_or-set_other slots k j (i + 1) 0 e)
@@ -166,7 +166,7 @@ module _ {xs : List (List ℕ)} {hashes slots : List ℕ} {i : ℕ} (ks : Hashes
                 below = all_append (λ (u : ℕ). u < i + 1) s.held (i ∷ []) (all_map (λ u l. omega arith) s.held s.below) (omega arith, tt);
                 covers = λ y all j l z. elim (ℕ_discrete j i) [
                   | yes p ↦ all_middle (λ (u : ℕ). nth xs u ≡ y → ⊥) s.held [] i all (ap (nth xs) (sym p) ∙ z)
-                  | no p ↦ s.covers y (all-before (λ (u : ℕ). nth xs u ≡ y → ⊥) s.held (i ∷ []) all) j (omega arith) z
+                  | no p ↦ s.covers y (all_before (λ (u : ℕ). nth xs u ≡ y → ⊥) s.held (i ∷ []) all) j (omega arith) z
                 ];
               };
         }
@@ -183,7 +183,7 @@ deduplicated_none xs equals list =
       only_unique = λ x h. absurd (omega arith);
       rising = λ x y h k. absurd (omega arith);
       listed = λ j h. absurd (omega arith);
-      listed-names = refl;
+      listed_names = refl;
       all_unique = λ h j k. absurd (omega arith);
     }
 
@@ -207,10 +207,10 @@ module _ {xs : List (List ℕ)} {equals list : List ℕ} {i m q r : ℕ} (inside
 
   -- the names listed before it, and then with it where it is new
   front : map (nth xs) (take m (set list m i)) ≡ different (take i xs)
-  front = ap (map (nth xs)) (take-set-le m list m i (omega arith)) ∙ old.listed-names
+  front = ap (map (nth xs)) (take-set-le m list m i (omega arith)) ∙ old.listed_names
 
-  names-step : map (nth xs) (take (m + r) (set list m i)) ≡ different (take (i + 1) xs)
-  names-step =
+  names_step : map (nth xs) (take (m + r) (set list m i)) ≡ different (take (i + 1) xs)
+  names_step =
       elim (ℕ_discrete q 0) [
         | yes z ↦
             (let e : m + r ≡ suc m = omega (arith, one.own z) in
@@ -219,13 +219,13 @@ module _ {xs : List (List ℕ)} {equals list : List ℕ} {i m q r : ℕ} (inside
             ∙ map-append (nth xs) (take m (set list m i)) (get_or (set list m i) m 0 ∷ [])
             ∙ ap (λ (v : ℕ). map (nth xs) (take m (set list m i)) ++ nth xs v ∷ []) (get_or-set_same list m i 0 room')
             ∙ ap (λ (l : List (List ℕ)). l ++ nth xs i ∷ []) front
-            ∙ sym (different-next xs i false inside (not_seen_before new z)))
+            ∙ sym (different_next xs i false inside (not_seen_before new z)))
         | no z ↦
             (let e : m + r ≡ m = omega (arith, one.none (omega arith)) in
             ap (λ (k : ℕ). map (nth xs) (take k (set list m i))) e
             ∙ front
             ∙ sym (append-nil (different (take i xs)))
-            ∙ sym (different-next xs i true inside (seen_before new inside (omega arith))))
+            ∙ sym (different_next xs i true inside (seen_before new inside (omega arith))))
       ]
 
   pub deduplicated_step : Deduplicated xs (set equals i q) (set list m i) (i + 1) (m + r)
@@ -239,8 +239,8 @@ module _ {xs : List (List ℕ)} {equals list : List ℕ} {i m q r : ℕ} (inside
             (λ h. get_or-set_same equals i q 0 room ∙ zero (omega arith));
         rising = rising_step list m (m + r) i room' (omega (arith, small)) old.below old.rising;
         listed = each (λ (j v : ℕ). v ≡ 0 → Listed (set list m i) (m + r) j)
-            (λ j h u. listed-old list m (m + r) i j (omega arith) (old.listed j h u))
-            (λ u. listed-new list m (m + r) i room' (omega (arith, one.own u)));
-        listed-names = names-step;
+            (λ j h u. listed_old list m (m + r) i j (omega arith) (old.listed j h u))
+            (λ u. listed_new list m (m + r) i room' (omega (arith, one.own u)));
+        listed_names = names_step;
         all_unique = λ h. each (λ (j v : ℕ). v ≡ 0) (old.all_unique (omega (arith, small))) (zero (omega (arith, old.count)));
       }

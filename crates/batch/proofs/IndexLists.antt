@@ -9,15 +9,15 @@ use lib.Seq.{get_or-set_same, get_or-set_other}
 use Rattle.batch.specs.Steps.Duplicates.{Listed, RisingTo}
 
 -- what is listed stays so
-pub listed-old : (l : List ℕ) (p q i j : ℕ) → p ≤ q → Listed l p j → Listed (set l p i) q j
-listed-old l p q i j h a =
+pub listed_old : (l : List ℕ) (p q i j : ℕ) → p ≤ q → Listed l p j → Listed (set l p i) q j
+listed_old l p q i j h a =
     record { place = a.place; inside = omega (arith, a.inside); is = get_or-set_other l p a.place i 0 (λ e. omega (arith, a.inside)) ∙ a.is }
 
 pub listed_more : {l : List ℕ} {p q j : ℕ} → p ≤ q → Listed l p j → Listed l q j
 listed_more h a = record { place = a.place; inside = omega (arith, a.inside); is = a.is }
 
-pub listed-new : (l : List ℕ) (p q i : ℕ) → p < length l → p < q → Listed (set l p i) q i
-listed-new l p q i room h = record { place = p; inside = h; is = get_or-set_same l p i 0 room }
+pub listed_new : (l : List ℕ) (p q i : ℕ) → p < length l → p < q → Listed (set l p i) q i
+listed_new l p q i room h = record { place = p; inside = h; is = get_or-set_same l p i 0 room }
 
 -- what holds of all that is listed, holds of one of them
 pub listed_has : (Q : ℕ → Type 0) {l : List ℕ} {m i : ℕ} → ((x : ℕ) → x < m → Q (get_or l x 0)) → Listed l m i → Q i

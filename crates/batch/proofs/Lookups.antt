@@ -6,7 +6,7 @@ use mathlib.Core.Bool.{false}
 use mathlib.Core.List.{List}
 use borrow.Author.Tests.{le-ltb, lt-leb}
 use lib.ListN.{length, get_or, drop, length-take, length-drop}
-use Rattle.image.proofs.NameEnds.{nth-name}
+use Rattle.image.proofs.NameEnds.{nth_name}
 use Rattle.reader.specs.Lookup.{nothing, Probe, pass, probe_entry, decide, lookup_hash, lookup_by}
 use Rattle.reader.specs.Steps.Resume.{search_from, lookup_from}
 use Rattle.reader.proofs.Searches.{lookup_with, from_by}
@@ -18,7 +18,7 @@ use Rattle.batch.specs.Steps.Probing.{SearchDecided}
 pub name_short : (bytes ends : List ℕ) (i : ℕ) → i < length ends → length bytes < 4294967295 → length (nth (names bytes ends) i) < 4294967295
 name_short bytes ends i h short =
     let b = begin_of ends i in
-    omega (arith, ap length (nth-name bytes ends i h), length-take (get_or ends i 0 - b) (drop b bytes), length-drop b bytes)
+    omega (arith, ap length (nth_name bytes ends i h), length-take (get_or ends i 0 - b) (drop b bytes), length-drop b bytes)
 
 module _ {image : List ℕ} {h c e : ℕ} (decided : SearchDecided image h c e) (name : List ℕ) (short : length name < 4294967295) where
   own_lookup : lookup_hash image name h ≡ lookup_by image name h

@@ -11,7 +11,7 @@ use Rattle.batch.specs.Steps.Duplicates.{Listed, RisingTo}
 use Rattle.batch.specs.Steps.Probing.{NextProbed, StillOpen, NowDecided, OpenOrDecided}
 use Rattle.batch.specs.Steps.Answers.{HasAnswer, Answered}
 use Rattle.batch.specs.RoundNames.{names}
-use Rattle.batch.proofs.IndexLists.{listed-old, listed_more, listed-new, listed_has, each_step, rising_step, both_step}
+use Rattle.batch.proofs.IndexLists.{listed_old, listed_more, listed_new, listed_has, each_step, rising_step, both_step}
 
 -- the z-th of the searches has read its bucket: it stays open where `on` is 1
 module _ {image hashes first live done offsets : List ℕ} {c p d z : ℕ} (old : OpenOrDecided image hashes first live done offsets c p d z)
@@ -56,13 +56,13 @@ module _ {image hashes first live done offsets : List ℕ} {c p d z : ℕ} (old 
       this : In i
       this =
           elim (ℕ_discrete on 0) [
-            | yes f ↦ inr (listed-new done d (d + (1 - on)) i room' (omega arith))
-            | no f ↦ inl (listed-new live p (p + on) i room (omega arith))
+            | yes f ↦ inr (listed_new done d (d + (1 - on)) i room' (omega arith))
+            | no f ↦ inl (listed_new live p (p + on) i room (omega arith))
           ]
 
       stays : (j : ℕ) → Listed live p j ⊎ Listed done d j → In j
-      stays j (inl a) = inl (listed-old live p (p + on) i j (omega arith) a)
-      stays j (inr a) = inr (listed-old done d (d + (1 - on)) i j (omega arith) a)
+      stays j (inl a) = inl (listed_old live p (p + on) i j (omega arith) a)
+      stays j (inr a) = inr (listed_old done d (d + (1 - on)) i j (omega arith) a)
 
       each : (y : ℕ) → y < z + 1 → In (get_or first y 0)
       each y h =

@@ -17,10 +17,10 @@ length_place (place s n) = refl
 length_place unnamed = refl
 
 -- every place holds its words
-pub all-places : (image ids l : List ℕ) → length l ≡ 4 * length ids → ((i : ℕ) → i < length ids → Has l i (place_words (naming image (get_or ids i 0))))
+pub all_places : (image ids l : List ℕ) → length l ≡ 4 * length ids → ((i : ℕ) → i < length ids → Has l i (place_words (naming image (get_or ids i 0))))
     → l ≡ name_words image ids
 unfolding name_words
-all-places image ids l = placed_words 0 (λ (id : ℕ). place_words (naming image id)) (λ id. length_place (naming image id)) ids l
+all_places image ids l = placed_words 0 (λ (id : ℕ). place_words (naming image id)) (λ id. length_place (naming image id)) ids l
 
 -- ---- the call, by its tests
 
@@ -29,9 +29,9 @@ pub refusal_by : (ids : List ℕ) (places : ℕ) (a b : Bool) → ltb 512 (lengt
 unfolding name_refusal
 refusal_by ids places a b ea eb = sym (λ i. cond (ea i) 14 (cond (eb i) 15 0))
 
-pub names-left : (image ids l : List ℕ) (r : ℕ) → r ≡ name_refusal ids (length l / 4) → 0 < r → l ≡ after_names image ids l
+pub names_left : (image ids l : List ℕ) (r : ℕ) → r ≡ name_refusal ids (length l / 4) → 0 < r → l ≡ after_names image ids l
 unfolding after_names
-names-left image ids l r e h =
+names_left image ids l r e h =
     sym (ap (λ (t : Bool). cond t l (name_words image ids ++ drop (4 * length ids) l)) (ap (ltb 0) (sym e) ∙ lt-ltb 0 r h))
 
 pub names_stored : (image ids l : List ℕ) → 0 ≡ name_refusal ids (length l / 4) → name_words image ids ++ drop (4 * length ids) l ≡ after_names image ids l

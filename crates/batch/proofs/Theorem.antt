@@ -13,23 +13,23 @@ use Rattle.jhash.proofs.ValueOrRefusal.{no_value, same_value}
 use Rattle.image.proofs.Bools.{chose_second}
 use Rattle.image.specs.Bytes.{cat}
 use Rattle.image.specs.Stored.{between}
-use Rattle.image.proofs.Lists.{length-cat}
+use Rattle.image.proofs.Lists.{length_cat}
 use Rattle.reader.specs.Lookup.{lookup}
 use Rattle.reader.specs.Naming.{naming}
 use Rattle.batch.specs.RoundNames.{names_from, names, invalid_ends, packed_bytes, ends_from, nth}
 use Rattle.batch.specs.Round.{answer_words, round_words, round_buckets, round_outcome, after_round}
 use Rattle.batch.specs.NameRound.{place_words, name_words, name_refusal, after_names}
 use Rattle.batch.specs.Theorems.Theorem.{place_at, RoundAccepted, RoundHolds}
-use Rattle.image.proofs.NameEnds.{length-names}
+use Rattle.image.proofs.NameEnds.{length_names}
 use Rattle.batch.proofs.AnswerPlaces.{length_words}
 use Rattle.batch.proofs.RoundAnswers.{left}
-use Rattle.batch.proofs.PlaceWords.{length_place, names-left}
-use Rattle.batch.proofs.Different.{once_each, not_above, all-different}
+use Rattle.batch.proofs.PlaceWords.{length_place, names_left}
+use Rattle.batch.proofs.Different.{once_each, not_above, all_different}
 
 -- ---- names packed, and read back
 
-first-name : (pre x rest : List ℕ) (s : ℕ) → length pre ≡ s → between (pre ++ (x ++ rest)) s (s + length x) ≡ x
-first-name pre x rest s e =
+first_name_lem : (pre x rest : List ℕ) (s : ℕ) → length pre ≡ s → between (pre ++ (x ++ rest)) s (s + length x) ≡ x
+first_name_lem pre x rest s e =
     let d : s + length x - s ≡ length x = omega arith in
     ap (λ (l : List ℕ). take (s + length x - s) l) (drop_at pre (x ++ rest) s e)
     ∙ take_at x rest (s + length x - s) (sym d)
@@ -38,7 +38,7 @@ back_from : (xs : List (List ℕ)) (pre : List ℕ) (s : ℕ) → length pre ≡
 unfolding names_from packed_bytes ends_from
 back_from [] pre s e = refl
 back_from (x ∷ xs) pre s e =
-    ap (λ (y : List ℕ). y ∷ names_from (pre ++ (x ++ packed_bytes xs)) (s + length x) (ends_from (s + length x) xs)) (first-name pre x (packed_bytes xs) s e)
+    ap (λ (y : List ℕ). y ∷ names_from (pre ++ (x ++ packed_bytes xs)) (s + length x) (ends_from (s + length x) xs)) (first_name_lem pre x (packed_bytes xs) s e)
     ∙ ap (λ (l : List ℕ). x ∷ names_from l (s + length x) (ends_from (s + length x) xs)) (sym (append_assoc pre x (packed_bytes xs)))
     ∙ ap (λ (l : List (List ℕ)). x ∷ l) (back_from xs (pre ++ x) (s + length x) (length-append pre x ∙ ap (λ (k : ℕ). k + length x) e))
 
@@ -97,16 +97,16 @@ unfolding round_words
 single image bytes ends answers a i h =
     ap (λ (l : List ℕ). place_at l i) (after_is image bytes ends answers a)
     ∙ part_at [] (words_of image) (λ x. length_words (lookup image x)) (names bytes ends) (drop (4 * length (names bytes ends)) answers) i
-    (omega (arith, length-names bytes ends))
+    (omega (arith, length_names bytes ends))
 
 past_kept : (image bytes ends answers : List ℕ) → RoundAccepted image bytes ends answers
     → drop (4 * length ends) (after_round image bytes ends answers) ≡ drop (4 * length ends) answers
 unfolding round_words
 past_kept image bytes ends answers a =
-    let e = length-names bytes ends in
+    let e = length_names bytes ends in
     ap (drop (4 * length ends)) (after_is image bytes ends answers a)
     ∙ drop_at (round_words image (names bytes ends)) (drop (4 * length (names bytes ends)) answers) (4 * length ends)
-    (length-cat (words_of image) 4 (λ x. length_words (lookup image x)) (names bytes ends) ∙ ap (λ (k : ℕ). 4 * k) e)
+    (length_cat (words_of image) 4 (λ x. length_words (lookup image x)) (names bytes ends) ∙ ap (λ (k : ℕ). 4 * k) e)
     ∙ ap (λ (k : ℕ). drop (4 * k) answers) e
 
 -- ---- ids in and names out
@@ -115,20 +115,20 @@ abbrev place_of : List ℕ → ℕ → List ℕ
 place_of image id = place_words (naming image id)
 
 module _ (image ids answers : List ℕ) (taken : name_refusal ids (length answers / 4) ≡ 0) where
-  names-after : after_names image ids answers ≡ cat (place_of image) ids ++ drop (4 * length ids) answers
+  names_after : after_names image ids answers ≡ cat (place_of image) ids ++ drop (4 * length ids) answers
   unfolding after_names name_words
-  names-after = ap (λ (t : Bool). cond t answers (cat (place_of image) ids ++ drop (4 * length ids) answers)) (ap (ltb 0) taken ∙ le-ltb 0 0 (omega arith))
+  names_after = ap (λ (t : Bool). cond t answers (cat (place_of image) ids ++ drop (4 * length ids) answers)) (ap (ltb 0) taken ∙ le-ltb 0 0 (omega arith))
 
   named : (i : ℕ) → i < length ids → place_at (after_names image ids answers) i ≡ place_words (naming image (get_or ids i 0))
   named i h =
-      ap (λ (l : List ℕ). place_at l i) names-after
+      ap (λ (l : List ℕ). place_at l i) names_after
       ∙ part_at 0 (place_of image) (λ id. length_place (naming image id)) ids (drop (4 * length ids) answers) i h
 
   names_past_kept : drop (4 * length ids) (after_names image ids answers) ≡ drop (4 * length ids) answers
   names_past_kept =
-      ap (drop (4 * length ids)) names-after
+      ap (drop (4 * length ids)) names_after
       ∙ drop_at (cat (place_of image) ids) (drop (4 * length ids) answers) (4 * length ids)
-      (length-cat (place_of image) 4 (λ id. length_place (naming image id)) ids)
+      (length_cat (place_of image) 4 (λ id. length_place (naming image id)) ids)
 
 pub round_holds : RoundHolds
 unfolding names
@@ -142,10 +142,10 @@ round_holds =
       counted = count_is;
       once_each = once_each;
       not_above = not_above;
-      all-different = all-different;
+      all_different = all_different;
       past_kept = past_kept;
       refused_kept = λ image bytes ends answers k e. sym (left image bytes ends answers (refusal k) (sym e));
       named = named;
       names_past_kept = names_past_kept;
-      names_refused_kept = λ image ids answers h. sym (names-left image ids answers (name_refusal ids (length answers / 4)) refl h);
+      names_refused_kept = λ image ids answers h. sym (names_left image ids answers (name_refusal ids (length answers / 4)) refl h);
     }

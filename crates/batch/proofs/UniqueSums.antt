@@ -19,9 +19,9 @@ use Rattle.batch.proofs.Different.{seen_before, not_seen_before}
 abbrev pub buckets_from : List ℕ → List (List ℕ) → ℕ → ℕ
 buckets_from image xs i = buckets_read image (different_from (take i xs) (drop i xs))
 
-pub sum-start : (image : List ℕ) (xs : List (List ℕ)) → 0 + buckets_from image xs 0 ≡ round_buckets image xs
+pub sum_start : (image : List ℕ) (xs : List (List ℕ)) → 0 + buckets_from image xs 0 ≡ round_buckets image xs
 unfolding different
-sum-start image xs = omega arith
+sum_start image xs = omega arith
 
 -- the buckets read are an answer's third word
 third_word : (x : Lookup) → get_or (answer_words x) 2 0 ≡ reads x

@@ -15,7 +15,7 @@ use Rattle.image.specs.Image.{has_name, contains_name}
 use Rattle.image.specs.Zero.{has_zero}
 use Rattle.image.proofs.Sizes.{entries_size-append}
 use Rattle.image.specs.PackedNames.{names, invalid_ends, nth, begin_of}
-use Rattle.image.proofs.NameEnds.{length-names}
+use Rattle.image.proofs.NameEnds.{length_names}
 use Rattle.writer.specs.declared.Repeats.{Repeats}
 use Rattle.writer.specs.declared.Repeats.TheVariants.{Off, On}
 use Rattle.writer.specs.State.{refuses_repeats, too_large}
@@ -30,26 +30,26 @@ use Rattle.build.specs.Steps.Capacity.{bytes_for_all, RoomForAll}
 use Rattle.build.specs.Steps.Steps.{entries_listed}
 use Rattle.build.proofs.Offsets.{size_all as size-entries}
 use Rattle.lists.proofs.Capacity.{back_rises}
-use Rattle.build.proofs.Listed.{length-listed, names-listed, back_listed}
+use Rattle.build.proofs.Listed.{length_listed, names_listed, back_listed}
 
 -- ---- the entries of all names
 
 module _ (bytes ends ids : List ℕ) (good : invalid_ends (length bytes) 0 ends ≡ false) (many : length ends ≤ length ids) where
   pub number_all : length (entries_listed (names bytes ends) ids) ≡ length ends
-  number_all = let n = length-names bytes ends in length-listed (names bytes ends) ids (omega arith) ∙ n
+  number_all = let n = length_names bytes ends in length_listed (names bytes ends) ids (omega arith) ∙ n
 
-  pub names-all : map (λ (e : Entry). e.name) (entries_listed (names bytes ends) ids) ≡ names bytes ends
-  names-all = let n = length-names bytes ends in names-listed (names bytes ends) ids (omega arith)
+  pub names_all : map (λ (e : Entry). e.name) (entries_listed (names bytes ends) ids) ≡ names bytes ends
+  names_all = let n = length_names bytes ends in names_listed (names bytes ends) ids (omega arith)
 
   pub end_all : entries_end (entries_listed (names bytes ends) ids) ≡ head_size + begin_of ends (length ends) + 9 * length ends
-  end_all = size-entries bytes ends good (entries_listed (names bytes ends) ids) names-all
+  end_all = size-entries bytes ends good (entries_listed (names bytes ends) ids) names_all
 
 -- ---- the size of their image
 
 module _ (mode : Mode) (bytes ends ids : List ℕ) (good : invalid_ends (length bytes) 0 ends ≡ false) (many : length ends ≤ length ids) where
   pub back_is : back_size_of mode (entries_listed (names bytes ends) ids) ≡ back_in mode (ids_back (take (length ends) ids))
   back_is =
-      let n = length-names bytes ends in
+      let n = length_names bytes ends in
       ap (back_in mode) (back_listed (names bytes ends) ids (omega arith) ∙ ap (λ (k : ℕ). ids_back (take k ids)) n)
 
   bytes_are : bytes_for_all mode ends ids ≡ at_most (image_size mode (entries_listed (names bytes ends) ids))
@@ -87,11 +87,11 @@ pub word_id : (mode : Mode) (x : List ℕ) (id : ℕ) → id < 2 ^ 32 → WordId
 word_id Twoway x id h = tt
 word_id Oneway x id h = h
 
-pub word-ids : (mode : Mode) (xs : List (List ℕ)) (ids : List ℕ) → ((i : ℕ) → i < length xs → get_or ids i 0 < 2 ^ 32) → WordIds mode (calls_of xs ids)
+pub word_ids : (mode : Mode) (xs : List (List ℕ)) (ids : List ℕ) → ((i : ℕ) → i < length xs → get_or ids i 0 < 2 ^ 32) → WordIds mode (calls_of xs ids)
 unfolding calls_of
-word-ids mode [] ids h = tt
-word-ids mode (x ∷ xs) [] h = tt
-word-ids mode (x ∷ xs) (id ∷ ids) h = (word_id mode x id (h 0 (omega arith)), word-ids mode xs ids (λ i k. h (suc i) (omega arith)))
+word_ids mode [] ids h = tt
+word_ids mode (x ∷ xs) [] h = tt
+word_ids mode (x ∷ xs) (id ∷ ids) h = (word_id mode x id (h 0 (omega arith)), word_ids mode xs ids (λ i k. h (suc i) (omega arith)))
 
 -- after the puts es each of the names xs can be put: none has a zero byte or, with repeats off, stands before, and all have room
 record Free (mode : Mode) (repeats : Repeats) (n : ℕ) (es : List Entry) (xs : List (List ℕ)) (ids : List ℕ) : Type 0 where
@@ -155,24 +155,24 @@ module _ (mode : Mode) (repeats : Repeats) (n : ℕ) where
           apart = λ off i j h k. f.apart off (suc i) (suc j) (omega arith) (omega arith);
         }
 
-  none-due : (es : List Entry) (xs : List (List ℕ)) (ids : List ℕ) → Free mode repeats n es xs ids
+  none_due : (es : List Entry) (xs : List (List ℕ)) (ids : List ℕ) → Free mode repeats n es xs ids
       → due_from mode repeats n es (calls_of xs ids) ≡ replicate (length xs) 0
   unfolding due_from calls_of
-  none-due es [] ids f = refl
-  none-due es (x ∷ xs) [] f = absurd (omega (arith, f.many))
-  none-due es (x ∷ xs) (id ∷ ids) f =
+  none_due es [] ids f = refl
+  none_due es (x ∷ xs) [] f = absurd (omega (arith, f.many))
+  none_due es (x ∷ xs) (id ∷ ids) f =
       ap₂ {C = List ℕ} (λ (r : ℕ) (rs : List ℕ). r ∷ rs) (free_due es x xs id ids f)
       (ap (λ (l : List Entry). due_from mode repeats n l (calls_of xs ids)) (free_accepted es x xs id ids f)
-      ∙ none-due (es ++ (entry_of x id ∷ [])) xs ids (free_next es x xs id ids f))
+      ∙ none_due (es ++ (entry_of x id ∷ [])) xs ids (free_next es x xs id ids f))
 
-  all-accepted : (es : List Entry) (xs : List (List ℕ)) (ids : List ℕ) → Free mode repeats n es xs ids
+  all_accepted : (es : List Entry) (xs : List (List ℕ)) (ids : List ℕ) → Free mode repeats n es xs ids
       → accepted_from mode repeats n es (calls_of xs ids) ≡ es ++ entries_listed xs ids
   unfolding accepted_from calls_of puts
-  all-accepted es [] ids f = sym (append-nil es)
-  all-accepted es (x ∷ xs) [] f = absurd (omega (arith, f.many))
-  all-accepted es (x ∷ xs) (id ∷ ids) f =
+  all_accepted es [] ids f = sym (append-nil es)
+  all_accepted es (x ∷ xs) [] f = absurd (omega (arith, f.many))
+  all_accepted es (x ∷ xs) (id ∷ ids) f =
       ap (λ (l : List Entry). accepted_from mode repeats n l (calls_of xs ids)) (free_accepted es x xs id ids f)
-      ∙ all-accepted (es ++ (entry_of x id ∷ [])) xs ids (free_next es x xs id ids f)
+      ∙ all_accepted (es ++ (entry_of x id ∷ [])) xs ids (free_next es x xs id ids f)
       ∙ append_assoc es (entry_of x id ∷ []) (entries_listed xs ids)
 
 -- ---- the list
@@ -196,7 +196,7 @@ module _ (mode : Mode) (repeats : Repeats) (buffer bytes ends ids : List ℕ) (g
   free_all : Free mode repeats n [] xs ids
   unfolding contains_name
   free_all =
-      let all = length-names bytes ends in
+      let all = length_names bytes ends in
       record {
         many = omega (arith, all, many);
         within = size_within mode bytes ends ids good many fits;
@@ -208,19 +208,19 @@ module _ (mode : Mode) (repeats : Repeats) (buffer bytes ends ids : List ℕ) (g
       }
 
   word : WordIds mode cs
-  word = word-ids mode xs ids free_all.words
+  word = word_ids mode xs ids free_all.words
 
   accepted_is : accepted mode repeats n cs ≡ es
   unfolding accepted
-  accepted_is = all-accepted mode repeats n [] xs ids free_all
+  accepted_is = all_accepted mode repeats n [] xs ids free_all
 
   -- every put is accepted, and answered by none
-  pub accepted-all : accepted_puts mode repeats buffer (listed bytes ends ids) ≡ entries_listed (names bytes ends) ids
-  accepted-all = list_accepted mode repeats buffer room cs word ∙ accepted_is
+  pub accepted_all : accepted_puts mode repeats buffer (listed bytes ends ids) ≡ entries_listed (names bytes ends) ids
+  accepted_all = list_accepted mode repeats buffer room cs word ∙ accepted_is
 
-  pub answers-none : answers_of mode repeats buffer (listed bytes ends ids) ≡ replicate (length ends) 0
+  pub answers_none : answers_of mode repeats buffer (listed bytes ends ids) ≡ replicate (length ends) 0
   unfolding due
-  answers-none =
+  answers_none =
       list_answers mode repeats buffer room cs word
-      ∙ none-due mode repeats n [] xs ids free_all
-      ∙ ap (λ (k : ℕ). replicate k 0) (length-names bytes ends)
+      ∙ none_due mode repeats n [] xs ids free_all
+      ∙ ap (λ (k : ℕ). replicate k 0) (length_names bytes ends)

@@ -13,12 +13,12 @@ use Rattle.image.specs.Bytes.{same}
 use Rattle.image.specs.Image.{Entry, head_size, image_size, image}
 use Rattle.image.specs.Steps.Contracts.{Cleared}
 use Rattle.image.proofs.AllOfList.{All}
-use Rattle.image.proofs.Sizes.{length-image}
+use Rattle.image.proofs.Sizes.{length_image}
 use Rattle.image.specs.Zero.{has_zero}
 use Rattle.image.proofs.Bools.{or_false_first, or_false_second}
-use Rattle.image.proofs.Between.{between-same}
+use Rattle.image.proofs.Between.{between_same}
 use Rattle.image.specs.PackedNames.{names, nth, invalid_ends, begin_of}
-use Rattle.image.proofs.NameEnds.{length-names, nth-name, begin_next, begins_rise}
+use Rattle.image.proofs.NameEnds.{length_names, nth_name, begin_next, begins_rise}
 use Rattle.writer.specs.declared.CQDBWriter.{CQDBWriter}
 use Rattle.serialize.specs.Steps.Meeting.{Pairwise, Distinct}
 use Rattle.writer.specs.declared.Repeats.{Repeats}
@@ -40,9 +40,9 @@ use Rattle.build.specs.Steps.Capacity.{RoomForAll}
 use Rattle.build.specs.Steps.Steps.{ListPre, ListBuilt, KeptBehind, Finished}
 use Rattle.build.specs.Steps.Stores.{list_entries, NoZeros}
 use Rattle.build.proofs.Whole.{refusal_none, answers_are, built_made}
-use Rattle.build.proofs.Listed.{nth-listed}
+use Rattle.build.proofs.Listed.{nth_listed}
 use Rattle.build.proofs.CallsLeft.{drop_later, puts_keep, accepted_most}
-use Rattle.build.proofs.AllPut.{number_all, word-ids, accepted-all, answers-none}
+use Rattle.build.proofs.AllPut.{number_all, word_ids, accepted_all, answers_none}
 
 -- ---- lists of words and of names
 
@@ -73,13 +73,13 @@ zero_free_drop zero l e = e
 zero_free_drop (suc n) [] e = refl
 zero_free_drop (suc n) (b ∷ l) e = zero_free_drop n l (or_false_second (eqb b 0) (has_zero l) e)
 
-pub names-zero_free : (bytes ends : List ℕ) → invalid_ends (length bytes) 0 ends ≡ false → (last : ℕ) → last ≡ begin_of ends (length ends)
+pub names_zero_free : (bytes ends : List ℕ) → invalid_ends (length bytes) 0 ends ≡ false → (last : ℕ) → last ≡ begin_of ends (length ends)
     → has_zero (take last bytes) ≡ false → NoZeros bytes ends
-names-zero_free bytes ends good last is e j h =
+names_zero_free bytes ends good last is e j h =
     let from = begin_of ends j in
     let to = get_or ends j 0 in
     let up : to ≤ last = omega (arith, is, begin_next ends j, begins_rise (length bytes) ends good (length ends) (j + 1) (omega arith) (omega arith)) in
-    ap has_zero (nth-name bytes ends j h ∙ sym (between-same (take last bytes) bytes to (take-take to last bytes up) from))
+    ap has_zero (nth_name bytes ends j h ∙ sym (between_same (take last bytes) bytes to (take-take to last bytes up) from))
     ∙ zero_free_take (to - from) (drop from (take last bytes)) (zero_free_drop from (take last bytes) e)
 
 -- of each two in a list
@@ -102,8 +102,8 @@ begun_fresh mode repeats buffer counts w z e =
     ap₂ (λ (x : CQDBWriter) (c : List ℕ). state_with x c buffer) e z ∙ sym (ap (λ (x : CQDBWriter). fresh x.mode x.repeats buffer) e)
 
 -- words that are all cleared
-pub all-zero : (l : List ℕ) (n : ℕ) → length l ≡ n → ((i : ℕ) → i < n → get_or l i 0 ≡ 0) → (i : ℕ) → get_or l i 0 ≡ 0
-all-zero l n e zeros i =
+pub all_zero : (l : List ℕ) (n : ℕ) → length l ≡ n → ((i : ℕ) → i < n → get_or l i 0 ≡ 0) → (i : ℕ) → get_or l i 0 ≡ 0
+all_zero l n e zeros i =
     elim (dec_lt i n) [
       | yes p ↦ zeros i p
       | no p ↦ get_or-eq_default l 0 {n = i} (omega arith)
@@ -123,16 +123,16 @@ module _ (mode : Mode) (repeats : Repeats) {buffer bytes ends ids refusals : Lis
   L = after_list mode repeats buffer cs
 
   word : WordIds mode cs
-  word = word-ids mode (names bytes ends) ids (λ i h. words i (omega (arith, length-names bytes ends)))
+  word = word_ids mode (names bytes ends) ids (λ i h. words i (omega (arith, length_names bytes ends)))
 
   left_written : Written mode repeats n (accepted mode repeats n cs) L
-  left_written = list_written mode repeats buffer pre.head-fits cs word
+  left_written = list_written mode repeats buffer pre.head_fits cs word
 
   pub list_closes : {s : State} → s ≡ after_list mode repeats buffer (listed bytes ends ids) → close_refusal s ≡ 0
   list_closes is = ap close_refusal is ∙ close_accepted mode repeats n (accepted mode repeats n cs) L left_written
 
   ok : build_refusal bytes ends (length ids) (length refusals) (length buffer) ≡ 0
-  ok = refusal_none bytes ends (length ids) (length refusals) (length buffer) pre.packed pre.ids_long pre.refusals_long pre.head-fits
+  ok = refusal_none bytes ends (length ids) (length refusals) (length buffer) pre.packed pre.ids_long pre.refusals_long pre.head_fits
 
   -- the bytes behind an image of all names
   pub closed_behind : KeptBehind mode bytes ends ids buffer (after_close (after_list mode repeats buffer (listed bytes ends ids))).buffer
@@ -144,7 +144,7 @@ module _ (mode : Mode) (repeats : Repeats) {buffer bytes ends ids refusals : Lis
       ap (λ (t : State). drop k t.buffer) (close_closed mode repeats n es L left_written)
       ∙ ap (drop k) (closed_buffer mode repeats n es L left_written)
       ∙ drop_later (image mode es ++ drop (image_size mode es) L.buffer) L.buffer (image_size mode es) k most
-      (drop_at (image mode es) (drop (image_size mode es) L.buffer) (image_size mode es) (length-image mode es))
+      (drop_at (image mode es) (drop (image_size mode es) L.buffer) (image_size mode es) (length_image mode es))
       ∙ puts_keep (fresh mode repeats buffer) (names bytes ends) ids k (omega arith)
 
   -- one by one
@@ -154,7 +154,7 @@ module _ (mode : Mode) (repeats : Repeats) {buffer bytes ends ids refusals : Lis
   unfolding image_of
   list_built {s} is {m} {bufferThen} {refusalsThen} done told =
       let leaves = done.leaves ∙ ap (λ (t : State). (after_close t).buffer) is in
-      let put = list_accepted mode repeats buffer pre.head-fits cs word in
+      let put = list_accepted mode repeats buffer pre.head_fits cs word in
       let counted = ap (λ (t : State). t.writer.entries) is ∙ left_written.entries ∙ ap length (sym put) in
       record {
         gives = built_made mode repeats buffer bytes ends ids refusals ok m (done.size ∙ ap closed_size is) (done.accepted ∙ counted);
@@ -170,10 +170,10 @@ module _ (mode : Mode) (repeats : Repeats) {buffer bytes ends ids refusals : Lis
       → ListBuilt mode repeats buffer bytes ends ids refusals built bufferThen refusalsThen
   unfolding made_of
   built_after {buffer'} {refusals'} size kept long tail {built} {bufferThen} {refusalsThen} done =
-      let room' : head_size ≤ length buffer' = omega (arith, size, pre.head-fits) in
+      let room' : head_size ≤ length buffer' = omega (arith, size, pre.head_fits) in
       let ok' : build_refusal bytes ends (length ids) (length refusals') (length buffer') ≡ 0 =
       ap₂ (λ (p b : ℕ). build_refusal bytes ends (length ids) p b) long size ∙ ok in
-      let told = calls_answered mode repeats buffer cs pre.head-fits word in
+      let told = calls_answered mode repeats buffer cs pre.head_fits word in
       let told' = calls_answered mode repeats buffer' cs room' word in
       let alike : accepted_puts mode repeats buffer' cs ≡ accepted_puts mode repeats buffer cs =
       told'.decided ∙ ap (λ (k : ℕ). accepted mode repeats k cs) size ∙ sym told.decided in
@@ -202,14 +202,14 @@ module _ (mode : Mode) (repeats : Repeats) {buffer bytes ends ids refusals : Lis
   abbrev es : List Entry
   es = list_entries bytes ends ids
 
-  distinct-names : Distinct (list_entries bytes ends ids) → (i j : ℕ) → j < i → i < length ends
+  distinct_names : Distinct (list_entries bytes ends ids) → (i j : ℕ) → j < i → i < length ends
       → same (nth (names bytes ends) j) (nth (names bytes ends) i) ≡ false
-  distinct-names two i j h k =
+  distinct_names two i j h k =
       let number = number_all bytes ends ids pre.packed pre.ids_long in
-      let many : length (names bytes ends) ≤ length ids = omega (arith, length-names bytes ends, pre.ids_long) in
+      let many : length (names bytes ends) ≤ length ids = omega (arith, length_names bytes ends, pre.ids_long) in
       let none = entry_of [] 0 in
       let its : (m : ℕ) → m < length ends → (get_or es m none).name ≡ nth (names bytes ends) m = λ m b.
-      ap (λ (e : Entry). e.name) (nth-listed (names bytes ends) ids m none many (omega (arith, length-names bytes ends))) in
+      ap (λ (e : Entry). e.name) (nth_listed (names bytes ends) ids m none many (omega (arith, length_names bytes ends))) in
       ap₂ same (sym (its j (omega arith))) (sym (its i k))
       ∙ pairwise_nth (λ (x y : Entry). same x.name y.name ≡ false) es none two i j h (omega (arith, number))
 
@@ -221,11 +221,11 @@ module _ (mode : Mode) (repeats : Repeats) {buffer bytes ends ids refusals : Lis
   all_built apart {size} sized leaves behind cleared =
       let good = pre.packed in
       let many = pre.ids_long in
-      let room = pre.head-fits in
+      let room = pre.head_fits in
       let cs = listed bytes ends ids in
-      let word = word-ids mode (names bytes ends) ids (λ i h. words i (omega (arith, length-names bytes ends))) in
+      let word = word_ids mode (names bytes ends) ids (λ i h. words i (omega (arith, length_names bytes ends))) in
       let told = calls_answered mode repeats buffer cs room word in
-      let all = accepted-all mode repeats buffer bytes ends ids good many room fits words clean (λ off. distinct-names (apart off)) in
+      let all = accepted_all mode repeats buffer bytes ends ids good many room fits words clean (λ off. distinct_names (apart off)) in
       let size_is : closed_size (after_list mode repeats buffer cs) ≡ image_size mode es = told.sized ∙ ap (size_of mode) all ∙ size_of_is mode es in
       let ok = refusal_none bytes ends (length ids) (length refusals) (length buffer) good many pre.refusals_long room in
       record {
@@ -233,12 +233,12 @@ module _ (mode : Mode) (repeats : Repeats) {buffer bytes ends ids refusals : Lis
             (sized ∙ sym size_is) (sym (ap length all ∙ number_all bytes ends ids good many));
         imaged =
             ap₂ take size_is leaves
-            ∙ take_at (image mode es) (drop (image_size mode es) buffer) (image_size mode es) (length-image mode es)
+            ∙ take_at (image mode es) (drop (image_size mode es) buffer) (image_size mode es) (length_image mode es)
             ∙ sym (told.imaged ∙ ap (image mode) all);
         behind = behind;
         answers =
             cleared
             ∙ ap (λ (l : List ℕ). l ++ drop (length ends) refusals)
-            (sym (answers-none mode repeats buffer bytes ends ids good many room fits words clean (λ off. distinct-names (apart off))))
+            (sym (answers_none mode repeats buffer bytes ends ids good many room fits words clean (λ off. distinct_names (apart off))))
             ∙ sym (answers_are mode repeats buffer bytes ends ids refusals ok);
       }

@@ -12,7 +12,7 @@ use lib.Seq.{take_all, drop-cons, length-take-le}
 use Rattle.image.specs.declared.Mode.{Mode}
 use Rattle.image.specs.declared.Mode.TheVariants.{Twoway, Oneway}
 use Rattle.image.specs.Image.{head_size, back_size, back_in}
-use Rattle.image.proofs.Between.{length-between}
+use Rattle.image.proofs.Between.{length_between}
 use Rattle.image.proofs.Bools.{or_false_first, or_false_second}
 use Rattle.image.specs.PackedNames.{names_from, names, invalid_ends, packed_bytes, begin_of}
 use Rattle.image.proofs.NameEnds.{begin_later}
@@ -106,7 +106,7 @@ puts_most bytes s (e ∷ es) (id ∷ ids) inside good =
     let rises = ltb-false e s (or_false_first (ltb e s) (ltb size e) two) in
     let within = ltb-false size e (or_false_second (ltb e s) (ltb size e) two) in
     let later = puts_most bytes e es ids within (or_false_second (ltb e s || ltb size e) (invalid_ends size e es) good) in
-    omega (arith, rises, length-between bytes s e rises within, later)
+    omega (arith, rises, length_between bytes s e rises within, later)
 
 back_most : (xs : List (List ℕ)) (ids : List ℕ) → back_size (puts (calls_of xs ids)) ≤ ids_back ids
 unfolding calls_of puts back_size ids_back

@@ -8,10 +8,10 @@ use mathlib.Core.List.{List, [], ◌∷◌, ◌++◌, map}
 use lib.ListN.{length, get_or, take, length-map, get_or-map}
 use lib.Seq.{take_all, take-suc}
 use Rattle.image.specs.Image.{Entry, head_size, entries_size}
-use Rattle.image.proofs.Between.{length-between}
+use Rattle.image.proofs.Between.{length_between}
 use Rattle.image.proofs.Sizes.{entries_size-append}
 use Rattle.image.specs.PackedNames.{names, invalid_ends, nth, begin_of}
-use Rattle.image.proofs.NameEnds.{length-names, nth-name, placed, begin_next}
+use Rattle.image.proofs.NameEnds.{length_names, nth_name, placed, begin_next}
 
 abbrev entry_offset : List ℕ → ℕ → ℕ
 entry_offset ends i = head_size + begin_of ends i + 9 * i
@@ -23,7 +23,7 @@ module _ (bytes ends : List ℕ) (good : invalid_ends (length bytes) 0 ends ≡ 
   name_long : (i : ℕ) → i < length ends → begin_of ends i + length (nth xs i) ≡ begin_of ends (i + 1)
   name_long i h =
       let p = placed (length bytes) ends i good h in
-      let is = ap length (nth-name bytes ends i h) ∙ length-between bytes (begin_of ends i) (get_or ends i 0) p.rises p.inside in
+      let is = ap length (nth_name bytes ends i h) ∙ length_between bytes (begin_of ends i) (get_or ends i 0) p.rises p.inside in
       omega (arith, is, p.rises, begin_next ends i)
 
   -- ---- entries with these names stand at these offsets
@@ -33,7 +33,7 @@ module _ (bytes ends : List ℕ) (good : invalid_ends (length bytes) 0 ends ≡ 
     none = record { name = []; id = 0 }
 
     as_many : length es ≡ length ends
-    as_many = sym (length-map es (λ (e : Entry). e.name)) ∙ ap length named ∙ length-names bytes ends
+    as_many = sym (length-map es (λ (e : Entry). e.name)) ∙ ap length named ∙ length_names bytes ends
 
     its_name : (i : ℕ) → (get_or es i none).name ≡ nth (names bytes ends) i
     its_name i = sym (get_or-map (λ (e : Entry). e.name) es i none) ∙ ap (λ (l : List (List ℕ)). nth l i) named

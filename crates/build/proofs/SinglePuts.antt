@@ -61,10 +61,10 @@ pub record PutsBefore (mode : Mode) (repeats : Repeats) (buffer : List ℕ) (xs 
   pub kept : (k : ℕ) → i ≤ k → drop k refusals ≡ drop k places
 
 module _ {mode : Mode} {repeats : Repeats} {buffer : List ℕ} {xs : List (List ℕ)} {ids places : List ℕ} where
-  pub puts-start : {s : State} {slots : List ℕ} → s ≡ fresh mode repeats buffer → head_size ≤ length buffer → ((i : ℕ) → get_or slots i 0 ≡ 0)
+  pub puts_start : {s : State} {slots : List ℕ} → s ≡ fresh mode repeats buffer → head_size ≤ length buffer → ((i : ℕ) → get_or slots i 0 ≡ 0)
       → PutsBefore mode repeats buffer xs ids places 0 s places slots
   unfolding fresh
-  puts-start {s} {slots} e room clear =
+  puts_start {s} {slots} e room clear =
       record {
         left = ap (λ (t : State). after t (calls_of xs ids)) e;
         told = ap (λ (t : State). answers t (calls_of xs ids)) e;
@@ -107,9 +107,9 @@ module _ {mode : Mode} {repeats : Repeats} {buffer : List ℕ} {xs : List (List 
       unfolding e more
       cons = rest_cons xs ids i inside (omega (arith, inside, many))
 
-      left-next : after s' more ≡ after_list mode repeats buffer (calls_of xs ids)
+      left_next : after s' more ≡ after_list mode repeats buffer (calls_of xs ids)
       unfolding after
-      left-next = ap (λ (u : State). after u more) next ∙ ap (after s) (sym cons) ∙ g.left
+      left_next = ap (λ (u : State). after u more) next ∙ ap (after s) (sym cons) ∙ g.left
 
       told_next : take (i + 1) (set refusals i r) ++ answers s' more ≡ answers_of mode repeats buffer (calls_of xs ids)
       unfolding answers
@@ -126,7 +126,7 @@ module _ {mode : Mode} {repeats : Repeats} {buffer : List ℕ} {xs : List (List 
       unfolding more
       puts_turn =
           record {
-            left = left-next;
+            left = left_next;
             told = told_next;
             index = λ h. done.index (omega (arith, h, long));
             few = omega (arith, ap (λ (u : State). u.writer.entries) next, entries_most s e, g.few);

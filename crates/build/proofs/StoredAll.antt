@@ -12,7 +12,7 @@ use lib.ListN.{get_or-replicate, drop_of_length-le}
 use lib.Seq.{sets, sets-eq, take_all, take-suc, split_at, get_or-set_same, get_or-set_other, drop-set-lt, drop-drop, drop-cons}
 use lib.Dec.{eqb}
 use Rattle.jhash.specs.NameHash.{hash_of, hash_or_zero}
-use Rattle.jhash.proofs.Outcomes.{hash_or-zero_short}
+use Rattle.jhash.proofs.Outcomes.{hash_or_zero_short}
 use Rattle.image.specs.declared.Mode.{Mode}
 use Rattle.image.specs.Bytes.{cat, range}
 use Rattle.image.specs.Tables.{table_of}
@@ -21,12 +21,12 @@ use Rattle.image.specs.Tally.{raised_counts}
 use Rattle.image.specs.Image.{Entry, head_size, entry_bytes, entries_size, placed, count, back_words, back_size_of, back_offset, entries_end, image_size}
 use Rattle.image.specs.Image.{head_words, table_rows}
 use Rattle.image.proofs.AllOfList.{All}
-use Rattle.image.proofs.Lists.{cat-append}
+use Rattle.image.proofs.Lists.{cat_append}
 use Rattle.image.proofs.Parts.{placed_in}
-use Rattle.image.proofs.Sizes.{entries_size-append, length_entries, length-entry_bytes, length-placed, count_nil, length-head_words, length-table_rows}
-use Rattle.image.proofs.Stores.{sets-left, sets_right_at}
+use Rattle.image.proofs.Sizes.{entries_size-append, length_entries, length-entry_bytes, length_placed, count_nil, length-head_words, length-table_rows}
+use Rattle.image.proofs.Stores.{sets_left, sets_right_at}
 use Rattle.image.specs.PackedNames.{names, nth}
-use Rattle.image.proofs.NameEnds.{length-names}
+use Rattle.image.proofs.NameEnds.{length_names}
 use Rattle.serialize.specs.Steps.Partition.{table_offsets_from, partitioned, advanced, EntryPartitioned}
 use Rattle.serialize.proofs.PartialImage.{up_to_entries}
 use Rattle.serialize.proofs.HeadRows.{Counts}
@@ -36,14 +36,14 @@ use Rattle.serialize.proofs.TablesFilled.{filled_to, filled_first, none_parted, 
 use Rattle.writer.specs.Put.{entry_of}
 use Rattle.lists.proofs.Appended.{count_within, count_same, count_other}
 use Rattle.build.specs.Steps.Stores.{list_entries, Hashes, Tallied, HashListPre, HashListPost}
-use Rattle.build.proofs.Listed.{length-listed, nth-listed}
+use Rattle.build.proofs.Listed.{length_listed, nth_listed}
 
 -- ---- zero bytes, a turn at a time
 
-pub any-zero-step : (bytes : List ℕ) (i : ℕ) (b x : Bool) → i < length bytes → (b || has_zero (drop i bytes)) ≡ x
+pub any_zero_step : (bytes : List ℕ) (i : ℕ) (b x : Bool) → i < length bytes → (b || has_zero (drop i bytes)) ≡ x
     → ((b || eqb (get_or bytes i 0) 0) || has_zero (drop (i + 1) bytes)) ≡ x
 unfolding has_zero
-any-zero-step bytes i b x h p =
+any_zero_step bytes i b x h p =
     let e : suc i ≡ i + 1 = omega arith in
     let z = eqb (get_or bytes i 0) 0 in
     or_assoc b z (has_zero (drop (i + 1) bytes))
@@ -51,9 +51,9 @@ any-zero-step bytes i b x h p =
     ∙ sym (ap (λ (l : List ℕ). b || has_zero l) (drop-cons bytes i 0 h))
     ∙ p
 
-pub any-zero_end : (bytes : List ℕ) (i : ℕ) (b x : Bool) → length bytes ≤ i → (b || has_zero (drop i bytes)) ≡ x → b ≡ x
+pub any_zero_end : (bytes : List ℕ) (i : ℕ) (b x : Bool) → length bytes ≤ i → (b || has_zero (drop i bytes)) ≡ x → b ≡ x
 unfolding has_zero
-any-zero_end bytes i b x h p = sym (or-false b) ∙ ap (λ (l : List ℕ). b || has_zero l) (sym (drop_of_length-le bytes {i = i} h)) ∙ p
+any_zero_end bytes i b x h p = sym (or-false b) ∙ ap (λ (l : List ℕ). b || has_zero l) (sym (drop_of_length-le bytes {i = i} h)) ∙ p
 
 -- ---- the first entries and the next one
 
@@ -65,12 +65,12 @@ module _ (bytes ends ids : List ℕ) (many : length ends ≤ length ids) where
   es = list_entries bytes ends ids
 
   number : length es ≡ length ends
-  number = length-listed xs ids (omega (arith, length-names bytes ends, many)) ∙ length-names bytes ends
+  number = length_listed xs ids (omega (arith, length_names bytes ends, many)) ∙ length_names bytes ends
 
   module _ (i : ℕ) (below : i < length ends) (name : List ℕ) (named : name ≡ nth (names bytes ends) i) where
     there : get_or es i (entry_of [] 0) ≡ entry_of name (get_or ids i 0)
     there =
-        nth-listed xs ids i (entry_of [] 0) (omega (arith, length-names bytes ends, many)) (omega (arith, length-names bytes ends))
+        nth_listed xs ids i (entry_of [] 0) (omega (arith, length_names bytes ends, many)) (omega (arith, length_names bytes ends))
         ∙ ap (λ (x : List ℕ). entry_of x (get_or ids i 0)) (sym named)
 
     pub next_entry : take (i + 1) (list_entries bytes ends ids) ≡ take i (list_entries bytes ends ids) ++ entry_of name (get_or ids i 0) ∷ []
@@ -115,7 +115,7 @@ module _ {bytes ends hashes₀ counts₀ : List ℕ} (pre : HashListPre bytes en
 
     module _ (below : i < length ends) {name : List ℕ} (named : name ≡ nth (names bytes ends) i) {h : ℕ} (hash : h ≡ hash_or_zero name) where
       its_hash : h ≡ hash_of name
-      its_hash = hash ∙ hash_or-zero_short name (omega (arith, ap length named, pre.short i below))
+      its_hash = hash ∙ hash_or_zero_short name (omega (arith, ap length named, pre.short i below))
 
       -- one more is a word
       pub count_word : get_or counts (table_of h) 0 < 4294967295
@@ -123,7 +123,7 @@ module _ {bytes ends hashes₀ counts₀ : List ℕ} (pre : HashListPre bytes en
           let qs = take i (list_entries bytes ends ends) in
           let few = length-take i (list_entries bytes ends ends) in
           let tallied = g.tallies ends (omega arith) (table_of h) (mod-lt h (omega arith)) in
-          omega (arith, tallied, count_within (table_of h) (placed head_size qs), length-placed head_size qs, few, pre.number_word)
+          omega (arith, tallied, count_within (table_of h) (placed head_size qs), length_placed head_size qs, few, pre.number_word)
 
       raised : (qs : List Entry) (e : Entry) → h ≡ hash_of e.name → Tallied counts qs → Tallied (raised_counts counts h) (qs ++ e ∷ [])
       unfolding raised_counts
@@ -236,7 +236,7 @@ module _ (mode : Mode) (es : List Entry) (E X tail : List ℕ) (room : length E 
         ∙ ap (λ (l : List ℕ). C ++ (b ++ l)) (drop-drop (0 + length b) (entries_size qs) E ∙ ap (λ (k : ℕ). drop k E) more)
         ∙ sym (append_assoc C b (drop (entries_size (qs ++ e ∷ [])) E))
         ∙ ap (λ (l : List ℕ). l ++ drop (entries_size (qs ++ e ∷ [])) E)
-        (ap (λ (l : List ℕ). C ++ l) (sym (append-nil b)) ∙ sym (cat-append entry_bytes qs (e ∷ []))))
+        (ap (λ (l : List ℕ). C ++ l) (sym (append-nil b)) ∙ sym (cat_append entry_bytes qs (e ∷ []))))
 
     -- an entry lies before the tables
     stored : (F : List ℕ) → at + length b ≤ length F → sets (halfway mode F es X qs tail) at b ≡ halfway mode (sets F at b) es X qs tail
@@ -245,7 +245,7 @@ module _ (mode : Mode) (es : List Entry) (E X tail : List ℕ) (room : length E 
         let R = cat (area_with (placed_in es) X (placed_in qs)) (range 0 256) in
         let L = back_words (placed_in qs) (back_size_of mode es) in
         ap (λ (l : List ℕ). sets l at b) (append_assoc (F ++ R) L tail ∙ append_assoc F R (L ++ tail))
-        ∙ sets-left b F (R ++ (L ++ tail)) at h
+        ∙ sets_left b F (R ++ (L ++ tail)) at h
         ∙ sym (append_assoc (sets F at b ++ R) L tail ∙ append_assoc (sets F at b) R (L ++ tail))
 
     pub storing_step : {buf places : List ℕ} {k : ℕ} → StoringTo mode es E X tail qs buf places k → {b1 b2 places' : List ℕ} → b1 ≡ sets buf k (entry_bytes e)

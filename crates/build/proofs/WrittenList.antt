@@ -13,11 +13,11 @@ use Rattle.image.specs.Bytes.{cat, range}
 use Rattle.image.specs.Image.{Entry, head_size, entry_bytes, entries_size, back_in, back_size, back_size_of, back_offset, entries_end, image_size, image}
 use Rattle.image.specs.Image.{head_words, table_rows, back_words}
 use Rattle.image.proofs.AllOfList.{All}
-use Rattle.image.proofs.Between.{length-between}
+use Rattle.image.proofs.Between.{length_between}
 use Rattle.image.proofs.Parts.{placed_in}
-use Rattle.image.proofs.Sizes.{entries_size-append, length-placed, length-back_words, back_in-twice}
+use Rattle.image.proofs.Sizes.{entries_size-append, length_placed, length-back_words, back_in_twice}
 use Rattle.image.specs.PackedNames.{names, nth, invalid_ends, begin_of}
-use Rattle.image.proofs.NameEnds.{length-names, nth-name, placed, begin_later, begin_next, begins_rise}
+use Rattle.image.proofs.NameEnds.{length_names, nth_name, placed, begin_later, begin_next, begins_rise}
 use Rattle.serialize.specs.Steps.Partition.{table_offsets_from, EntryPartitioned}
 use Rattle.serialize.specs.Steps.Written.{begun_image}
 use Rattle.serialize.specs.Steps.Meeting.{AllDone}
@@ -39,15 +39,15 @@ pub names_short : (bytes ends : List ℕ) → invalid_ends (length bytes) 0 ends
     → (j : ℕ) → j < length ends → length (nth (names bytes ends) j) < 4294967295
 names_short bytes ends good small j h =
     let p = placed (length bytes) ends j good h in
-    let size = ap length (nth-name bytes ends j h) ∙ length-between bytes (begin_of ends j) (get_or ends j 0) p.rises p.inside in
+    let size = ap length (nth_name bytes ends j h) ∙ length_between bytes (begin_of ends j) (get_or ends j 0) p.rises p.inside in
     omega (arith, size, begin_next ends j, begins_rise (length bytes) ends good (length ends) (j + 1) (omega arith) (omega arith))
 
-ids-listed : (xs : List (List ℕ)) (ids : List ℕ) → ((i : ℕ) → i < length xs → get_or ids i 0 < 2 ^ 32)
+ids_listed : (xs : List (List ℕ)) (ids : List ℕ) → ((i : ℕ) → i < length xs → get_or ids i 0 < 2 ^ 32)
     → All (λ (e : Entry). e.id < 2 ^ 32) (entries_listed xs ids)
 unfolding calls_of puts
-ids-listed [] ids h = tt
-ids-listed (x ∷ xs) [] h = tt
-ids-listed (x ∷ xs) (id ∷ ids) h = (h 0 (omega arith), ids-listed xs ids (λ i k. h (suc i) (omega arith)))
+ids_listed [] ids h = tt
+ids_listed (x ∷ xs) [] h = tt
+ids_listed (x ∷ xs) (id ∷ ids) h = (h 0 (omega arith), ids_listed xs ids (λ i k. h (suc i) (omega arith)))
 
 -- bytes put back before what was behind them
 pub length_back : (a b : List ℕ) (n : ℕ) → length a ≡ n → n ≤ length b → length (a ++ drop n b) ≡ length b
@@ -115,15 +115,15 @@ module _ {mode : Mode} {counts hashes buffer bytes ends ids : List ℕ} (pre : W
   back_of_all = sym (back_is mode bytes ends ids pre.list.packed pre.list.ids_long)
 
   ids_all : All (λ (e : Entry). e.id < 2 ^ 32) es
-  ids_all = ids-listed (names bytes ends) ids (λ i h. words i (omega (arith, length-names bytes ends)))
+  ids_all = ids_listed (names bytes ends) ids (λ i h. words i (omega (arith, length_names bytes ends)))
 
   room : length E ≡ entries_size es
-  room = omega (arith, length-between buffer head_size (entries_end es) (omega arith) (omega (arith, within)))
+  room = omega (arith, length_between buffer head_size (entries_end es) (omega arith) (omega (arith, within)))
 
   area : length X ≡ 16 * length (placed_in es)
   area =
       let end = entries_end es in
-      omega (arith, length-between buffer end (end + 16 * length es) (omega arith) (omega (arith, within)), length-placed head_size es)
+      omega (arith, length_between buffer end (end + 16 * length es) (omega arith) (omega (arith, within)), length_placed head_size es)
 
   pub numbers : {end entries back : ℕ} → end ≡ entries_end (list_entries bytes ends ids) → entries ≡ length (list_entries bytes ends ids)
       → back ≡ back_size_of mode (list_entries bytes ends ids) → Numbers mode end entries back counts buffer (list_entries bytes ends ids)
@@ -133,7 +133,7 @@ module _ {mode : Mode} {counts hashes buffer bytes ends ids : List ℕ} (pre : W
         number = en;
         backs = eb;
         tallies = pre.tallies;
-        inside = omega (arith, ee, en, ap (back_in mode) eb ∙ back_in-twice mode (back_size es), within);
+        inside = omega (arith, ee, en, ap (back_in mode) eb ∙ back_in_twice mode (back_size es), within);
       }
 
   begun : {end entries back : ℕ} → end ≡ entries_end es → entries ≡ length es → back ≡ back_size_of mode es → {b0 : List ℕ}

@@ -13,7 +13,7 @@ use lib.Seq.{length-sets, append_snoc}
 use Rattle.jhash.specs.Outcome.{Outcome, value, refusal}
 use Rattle.jhash.proofs.ValueOrRefusal.{same_value}
 use Rattle.image.specs.Bytes.{cat}
-use Rattle.image.proofs.Lists.{cat-append}
+use Rattle.image.proofs.Lists.{cat_append}
 use Rattle.bundle.specs.FileWalk.{place_of_image}
 use Rattle.bundle.specs.Opening.{image_or, image_at}
 use Rattle.bundle.specs.Append.{is_value, whole_file, unfit, append_refusal, after_append}
@@ -46,7 +46,7 @@ nth_past (x ∷ xs) (suc k) h = nth_past xs k (omega (arith, h))
 
 joined_more : (xs : List (List ℕ)) (x : List ℕ) → back_to_back (xs ++ x ∷ []) ≡ back_to_back xs ++ x
 unfolding cat
-joined_more xs x = cat-append (λ (l : List ℕ). l) xs (x ∷ []) ∙ ap (λ (l : List ℕ). back_to_back xs ++ l) (append-nil x)
+joined_more xs x = cat_append (λ (l : List ℕ). l) xs (x ∷ []) ∙ ap (λ (l : List ℕ). back_to_back xs ++ l) (append-nil x)
 
 -- ---- a file that holds these images, in a buffer of so many bytes
 
@@ -118,15 +118,15 @@ module _ (room : ℕ) (f : File) (xs : List (List ℕ)) (good : Good room f xs) 
   good_more =
       let n : length (xs ++ x ∷ []) ≡ suc (length xs) = length-append xs (x ∷ []) ∙ add-one (length xs) in
       record {
-        buffer_length = kept-length ∙ good.buffer_length;
+        buffer_length = kept_length ∙ good.buffer_length;
         inside = rw sized (omega (arith, a.in_buffer, good.buffer_length));
         joins = now_bytes ∙ a.file ∙ ap (λ (l : List ℕ). l ++ x) good.joins ∙ sym (joined_more xs x);
         reads = reads_now;
         holds = rw n holds_now;
       }
     where
-      kept-length : length (after_append f.buffer f.size x) ≡ length f.buffer
-      kept-length = ap length (sym (was_sets f.buffer f.size x m e)) ∙ length-sets f.buffer f.size x
+      kept_length : length (after_append f.buffer f.size x) ≡ length f.buffer
+      kept_length = ap length (sym (was_sets f.buffer f.size x m e)) ∙ length-sets f.buffer f.size x
 
 -- ---- lists
 

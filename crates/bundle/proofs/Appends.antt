@@ -17,8 +17,8 @@ use Rattle.bundle.specs.Append.{is_value, whole_file, unfit, append_refusal, app
 ten_none : ◌≡◌ {A = ℕ} 10 0 → ⊥
 ten_none z = omega arith
 
-three-none : ◌≡◌ {A = ℕ} 3 0 → ⊥
-three-none z = omega arith
+three_none : ◌≡◌ {A = ℕ} 3 0 → ⊥
+three_none z = omega arith
 
 module _ (buf : List ℕ) (n : ℕ) (image : List ℕ) where
   -- the decision, check by check
@@ -61,7 +61,7 @@ module _ (buf : List ℕ) (n : ℕ) (image : List ℕ) where
         inside = ltb-false (length buf) n (or_false_first long broken front);
         walked = not-false (whole_file (take n buf)) (or_false_second long broken front);
         fit = or_false_second (long || broken) (unfit image) fine.0;
-        room = ltb-false (length buf) (n + length image) (chose_second {A = ℕ} full 3 0 0 three-none fine.1).0;
+        room = ltb-false (length buf) (n + length image) (chose_second {A = ℕ} full 3 0 0 three_none fine.1).0;
       }
 
   -- the answer and the effect: a refusal leaves everything, an accepted append writes the image's bytes
@@ -103,8 +103,8 @@ module _ (buf : List ℕ) (n : ℕ) (image : List ℕ) where
       ap (take (n + length image)) (writes e) ∙ take_at (take n buf ++ image) (drop (n + length image) buf) (n + length image) front
 
 -- a walk of the whole file came to its end: so many images
-pub whole-counts : (file : List ℕ) → whole_file file ≡ true → (n : ℕ) × (counting file ≡ value n)
-whole-counts file e = counted_where_value (counting file) refl e
+pub whole_counts : (file : List ℕ) → whole_file file ≡ true → (n : ℕ) × (counting file ≡ value n)
+whole_counts file e = counted_where_value (counting file) refl e
   where
     counted_where_value : (o : Outcome ℕ) → counting file ≡ o → is_value o ≡ true → (n : ℕ) × (counting file ≡ value n)
     counted_where_value (value n) q z = (n, q)

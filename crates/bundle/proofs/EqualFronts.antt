@@ -8,7 +8,7 @@ use lib.ListN.{length, take, drop, length-drop}
 use lib.Seq.{length-take-le, take-take}
 use Rattle.jhash.specs.Outcome.{value}
 use Rattle.jhash.proofs.ValueOrRefusal.{no_value, same_value}
-use Rattle.image.proofs.Between.{word_same, between-same}
+use Rattle.image.proofs.Between.{word_same, between_same}
 use Rattle.bundle.specs.FileWalk.{Place, size_at, place_from, place_of_image}
 use Rattle.bundle.specs.Opening.{image_part}
 use Rattle.bundle.specs.Theorems.Bundles.{Exact, image_end, HoldsImages}
@@ -57,7 +57,7 @@ module _ (a b : List ℕ) (e : ℕ) (same : take e a ≡ take e b) (in_b : e ≤
       let up_to : take (image_end p) a ≡ take (image_end p) b = sym (take-take (image_end p) e a l) ∙ ap (take (image_end p)) same ∙ take-take (image_end p) e b l in
       let d : image_end p - p.start ≡ p.size = omega arith in
       ap (λ (n : ℕ). take n (drop p.start a)) (sym d)
-      ∙ between-same a b (image_end p) up_to p.start
+      ∙ between_same a b (image_end p) up_to p.start
       ∙ ap (λ (n : ℕ). take n (drop p.start b)) d
 
 -- a file that goes on behind a: past the images of a, its walk goes on at a's end

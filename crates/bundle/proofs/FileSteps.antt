@@ -50,12 +50,12 @@ module _ (file : List ℕ) (at : ℕ) where
   met =
       elim (ℕ_discrete at (length file)) [
         | yes e ↦ ended e
-        | no n ↦ broken-or_begun n (breaks file at) refl
+        | no n ↦ broken_or_begun n (breaks file at) refl
       ]
     where
-      broken-or_begun : (at ≡ length file → ⊥) → (b : Bool) → breaks file at ≡ b → Met file at
-      broken-or_begun n true e = broke n e
-      broken-or_begun n false e = began (unbroken e)
+      broken_or_begun : (at ≡ length file → ⊥) → (b : Bool) → breaks file at ≡ b → Met file at
+      broken_or_begun n true e = broke n e
+      broken_or_begun n false e = began (unbroken e)
 
   -- what a step gives in each case
   module _ {A : Type 0} (end image : Outcome A) where

@@ -12,7 +12,7 @@ use lib.Seq.{take-length, take-append_seam, drop-append_seam}
 use Rattle.jhash.specs.Outcome.{value, refusal}
 use Rattle.image.specs.Bytes.{word}
 use Rattle.image.proofs.Bools.{or_false_first, or_false_second}
-use Rattle.image.proofs.Words.{word-drop}
+use Rattle.image.proofs.Words.{word_drop}
 use Rattle.reader.specs.Open.{opening}
 use Rattle.bundle.specs.FileWalk.{Place, size_at, place_from, place_of_image}
 use Rattle.bundle.specs.Opening.{image_part, image_or, with_num, open_in, opening_at}
@@ -49,7 +49,7 @@ module _ (old image : List ℕ) (n : ℕ) (holds : HoldsImages old 0 n) (fine : 
   -- the new image begins at the old file's end
   sized : size_at new (length old) ≡ length image
   unfolding new
-  sized = sym (word-drop (old ++ image) (length old) 4) ∙ ap (λ (l : List ℕ). word l 4) (drop-append_seam old image) ∙ (fit image fine).1
+  sized = sym (word_drop (old ++ image) (length old) 4) ∙ ap (λ (l : List ℕ). word l 4) (drop-append_seam old image) ∙ (fit image fine).1
 
   begins : Begins new (length old)
   begins =

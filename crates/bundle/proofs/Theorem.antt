@@ -21,7 +21,7 @@ use Rattle.bundle.specs.Append.{unfit}
 use Rattle.bundle.specs.AppendList.{bytes, empty_file, accepted_images}
 use Rattle.bundle.specs.Theorems.Bundles.{image_end, left, Bundles}
 use Rattle.bundle.proofs.ImagePlaces.{opens_alone, for_good}
-use Rattle.bundle.proofs.WholeFiles.{count_holds, count-broken, holds_count, broken-count}
+use Rattle.bundle.proofs.WholeFiles.{count_holds, count_broken, holds_count, broken_count}
 use Rattle.bundle.proofs.EqualFronts.{place_same, exact}
 use Rattle.bundle.proofs.Appends.{was_refused}
 use Rattle.bundle.proofs.AcceptedAppend.{accepting}
@@ -57,11 +57,11 @@ bundles = record {
   only_as_far = λ a b k p e same. place_same a b (image_end p) same (reaches a b (image_end p) same (exact a k p e).inside) k 0 p e (le_refl (image_end p));
   for_good = λ file j d r e. for_good file j 0 d r e;
   counted = λ file n. (holds_count file n, count_holds file n);
-  not-counted = λ file. (broken-count file, λ b. count-broken file b.0 b.1);
+  not_counted = λ file. (broken_count file, λ b. count_broken file b.0 b.1);
   accepts = accepting;
   refuses = was_refused;
   too_large = too_large;
-  back-to-back = λ buf images. (good_left buf images).joins;
+  back_to_back_lem = λ buf images. (good_left buf images).joins;
   position = λ buf images k. (good_left buf images).reads k;
   position_opens = λ buf images k image e.
       opens_alone (bytes (left buf images)) (place_of_image (bytes (left buf images)) k) image ((good_left buf images).reads k ∙ e);

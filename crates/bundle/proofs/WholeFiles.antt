@@ -97,18 +97,18 @@ module _ (file : List ℕ) where
   pub count_holds : (n : ℕ) → HoldsImages file 0 n → counting file ≡ value n
   count_holds n f = let z : 0 + n ≡ n = omega arith in counts n (length file / 2072) 0 0 f enough ∙ ap value z
 
-  pub count-broken : (k : ℕ) → place_of_image file k ≡ refusal 10 → counting file ≡ refusal 10
-  count-broken k e = breaks_off k (length file / 2072) 0 0 e
+  pub count_broken : (k : ℕ) → place_of_image file k ≡ refusal 10 → counting file ≡ refusal 10
+  count_broken k e = breaks_off k (length file / 2072) 0 0 e
 
   pub holds_count : (n : ℕ) → counting file ≡ value n → HoldsImages file 0 n
   holds_count n e = holds_where_counted (comes (length file / 2072) 0 enough)
     where
       holds_where_counted : Comes 0 → HoldsImages file 0 n
       holds_where_counted (inl f) = let s = same_value f.0 n (sym (count_holds f.0 f.1) ∙ e) in rw s at f.1
-      holds_where_counted (inr b) = absurd (no_value 10 n (sym (count-broken b.0 b.1) ∙ e))
+      holds_where_counted (inr b) = absurd (no_value 10 n (sym (count_broken b.0 b.1) ∙ e))
 
-  pub broken-count : counting file ≡ refusal 10 → (k : ℕ) × (place_of_image file k ≡ refusal 10)
-  broken-count e = broken_where_refused (comes (length file / 2072) 0 enough)
+  pub broken_count : counting file ≡ refusal 10 → (k : ℕ) × (place_of_image file k ≡ refusal 10)
+  broken_count e = broken_where_refused (comes (length file / 2072) 0 enough)
     where
       broken_where_refused : Comes 0 → (k : ℕ) × (place_of_image file k ≡ refusal 10)
       broken_where_refused (inl f) = absurd (no_value 10 f.0 (sym e ∙ count_holds f.0 f.1))

@@ -11,7 +11,7 @@ use Rattle.image.specs.Bytes.{filter}
 use Rattle.image.specs.Image.{Placed, placed_of_id, last_from, back_word}
 use Rattle.image.proofs.AllOfList.{All, all_map}
 use Rattle.canonical.specs.Steps.HiddenBuckets.{bit, Rising, BackArrayMatches}
-use Rattle.canonical.proofs.Sums.{bit-yes, bit-no, sum_same}
+use Rattle.canonical.proofs.Sums.{bit_yes, bit_no, sum_same}
 use Rattle.canonical.proofs.Cells as cells
 
 -- the offsets of entries, and their ids
@@ -50,37 +50,37 @@ module _ (l : ℕ → ℕ) where
   own_other i p ps d = cells.own_other id (λ (p : Placed). p.at) l i p ps d
 
   -- if an id's back word is one of its entries' offsets, and none of them is larger, it is the last one
-  back_word-last : (i x a : ℕ) (ps : List Placed) → x < a → Rising a (offsets ps) → All (λ (p : Placed). p.at ≤ l (id p)) ps → x ≤ l i
+  back_word_last : (i x a : ℕ) (ps : List Placed) → x < a → Rising a (offsets ps) → All (λ (p : Placed). p.at ≤ l (id p)) ps → x ≤ l i
       → own i ps ≡ bit (suc x) (l i) → after i x ps ≡ l i
   unfolding placed_of_id filter last_from
-  back_word-last i x a [] h r s le e =
+  back_word_last i x a [] h r s le e =
       elim (dec_le (suc x) (l i)) [
-        | yes k ↦ absurd (omega (arith, bit-yes (suc x) (l i) k, cells.own_none id (λ (p : Placed). p.at) l i))
+        | yes k ↦ absurd (omega (arith, bit_yes (suc x) (l i) k, cells.own_none id (λ (p : Placed). p.at) l i))
         | no k ↦ omega arith
       ]
-  back_word-last i x a (q ∷ ps) h r s le e =
+  back_word_last i x a (q ∷ ps) h r s le e =
       let first = r.0 in
       elim (ℕ_discrete (id q) i) [
         | yes z ↦
             let ahead : q.at ≤ l i = rw z at s.0 in
-            after_own i x q ps z ∙ back_word-last i q.at (suc q.at) ps (omega arith) r.1 s.1 ahead (rest ahead (own_here i q ps z))
-        | no z ↦ after_other i x q ps z ∙ back_word-last i x (suc q.at) ps (omega arith) r.1 s.1 le (sym (own_other i q ps z) ∙ e)
+            after_own i x q ps z ∙ back_word_last i q.at (suc q.at) ps (omega arith) r.1 s.1 ahead (rest ahead (own_here i q ps z))
+        | no z ↦ after_other i x q ps z ∙ back_word_last i x (suc q.at) ps (omega arith) r.1 s.1 le (sym (own_other i q ps z) ∙ e)
       ]
     where
       rest : q.at ≤ l i → own i (q ∷ ps) ≡ cond (eqb (l i) q.at) 1 0 + own i ps → own i ps ≡ bit (suc q.at) (l i)
       rest ahead o =
           let first = r.0 in
-          let some = bit-yes (suc x) (l i) (omega arith) in
+          let some = bit_yes (suc x) (l i) (omega arith) in
           elim (ℕ_discrete (l i) q.at) [
-            | yes z ↦ let f = rw (eq-eqb (l i) q.at z) at o in omega (arith, bit-no (suc q.at) (l i) (omega arith))
-            | no z ↦ let f = rw (ne_eqb (l i) q.at z) at o in omega (arith, bit-yes (suc q.at) (l i) (omega arith))
+            | yes z ↦ let f = rw (eq-eqb (l i) q.at z) at o in omega (arith, bit_no (suc q.at) (l i) (omega arith))
+            | no z ↦ let f = rw (ne_eqb (l i) q.at z) at o in omega (arith, bit_yes (suc q.at) (l i) (omega arith))
           ]
 
   -- and the last one is no smaller than any
   last_owned : (i x a : ℕ) (ps : List Placed) → x < a → Rising a (offsets ps) → after i x ps ≡ l i
       → (x ≤ l i) × (own i ps ≡ bit (suc x) (l i)) × All (λ (p : Placed). id p ≡ i → p.at ≤ l i) ps
   unfolding placed_of_id filter last_from
-  last_owned i x a [] h r e = (omega arith, cells.own_none id (λ (p : Placed). p.at) l i ∙ sym (bit-no (suc x) (l i) (omega arith)), tt)
+  last_owned i x a [] h r e = (omega arith, cells.own_none id (λ (p : Placed). p.at) l i ∙ sym (bit_no (suc x) (l i) (omega arith)), tt)
   last_owned i x a (q ∷ ps) h r e =
       let first = r.0 in
       elim (ℕ_discrete (id q) i) [
@@ -95,17 +95,17 @@ module _ (l : ℕ → ℕ) where
       here : q.at ≤ l i → own i ps ≡ bit (suc q.at) (l i) → cond (eqb (l i) q.at) 1 0 + own i ps ≡ bit (suc x) (l i)
       here le o =
           let first = r.0 in
-          let some = bit-yes (suc x) (l i) (omega arith) in
+          let some = bit_yes (suc x) (l i) (omega arith) in
           elim (ℕ_discrete (l i) q.at) [
-            | yes z ↦ rw (eq-eqb (l i) q.at z) (omega (arith, bit-no (suc q.at) (l i) (omega arith)))
-            | no z ↦ rw (ne_eqb (l i) q.at z) (omega (arith, bit-yes (suc q.at) (l i) (omega arith)))
+            | yes z ↦ rw (eq-eqb (l i) q.at z) (omega (arith, bit_no (suc q.at) (l i) (omega arith)))
+            | no z ↦ rw (ne_eqb (l i) q.at z) (omega (arith, bit_yes (suc q.at) (l i) (omega arith)))
           ]
 
   module _ (n : ℕ) (ps : List Placed) (r : Rising 1 (offsets ps)) (ids : All (λ (p : Placed). id p < n) ps) where
     pub matching_back_word : BackArrayMatches n l ps → (i : ℕ) → i < n → back_word ps i ≡ l i
     unfolding back_word
     matching_back_word k i h =
-        back_word-last i 0 1 ps (omega arith) r k.ahead (omega arith) (cells.owned id (λ (p : Placed). p.at) l n ps r ids k.used i h)
+        back_word_last i 0 1 ps (omega arith) r k.ahead (omega arith) (cells.owned id (λ (p : Placed). p.at) l n ps r ids k.used i h)
 
     pub back_words_match : ((i : ℕ) → i < n → back_word ps i ≡ l i) → BackArrayMatches n l ps
     unfolding back_word

@@ -11,7 +11,7 @@ use lib.Dec.{eqb}
 use borrow.Author.Tests.{eq-eqb, ne_eqb}
 use Rattle.image.proofs.AllOfList.{All}
 use Rattle.canonical.specs.Steps.HiddenBuckets.{sum_to, bit, used_to, Rising, in_cells}
-use Rattle.canonical.proofs.Sums.{bit-yes, bit-no, bit_mono, one_at_most, sum-zero, sum_more, sum_equal}
+use Rattle.canonical.proofs.Sums.{bit_yes, bit_no, bit_mono, one_at_most, sum_zero, sum_more, sum_equal}
 
 module _ {A : Type 0} (cell value : A → ℕ) (f : ℕ → ℕ) where
   -- how many elements of cell i have its value
@@ -41,7 +41,7 @@ module _ {A : Type 0} (cell value : A → ℕ) (f : ℕ → ℕ) where
       let le = r.0 in
       let rest = own_most i (suc (value x)) xs r.1 in
       elim (ℕ_discrete (f i) (value x)) [
-        | yes e ↦ omega (arith, most (eqb (cell x) i) (eqb (f i) (value x)), bit-no (suc (value x)) (f i) (omega arith), bit-yes a (f i) (omega arith))
+        | yes e ↦ omega (arith, most (eqb (cell x) i) (eqb (f i) (value x)), bit_no (suc (value x)) (f i) (omega arith), bit_yes a (f i) (omega arith))
         | no d ↦ omega (arith, none (eqb (cell x) i) d, bit_mono a (suc (value x)) (f i) (omega arith))
       ]
     where
@@ -55,7 +55,7 @@ module _ {A : Type 0} (cell value : A → ℕ) (f : ℕ → ℕ) where
 
   pub own_sum : (n : ℕ) (xs : List A) → All (λ (x : A). cell x < n) xs → sum_to (λ (i : ℕ). own i xs) n ≡ in_cells cell value f xs
   unfolding own in_cells
-  own_sum n [] inside = sum-zero (λ (i : ℕ). 0) n (λ k. refl)
+  own_sum n [] inside = sum_zero (λ (i : ℕ). 0) n (λ k. refl)
   own_sum n (x ∷ xs) inside =
       let hit : ℕ = cond (eqb (f (cell x)) (value x)) 1 0 in
       let more = sum_more (λ (i : ℕ). own i xs) (λ (i : ℕ). own i (x ∷ xs)) (cell x) hit n inside.0

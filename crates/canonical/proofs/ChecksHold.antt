@@ -11,7 +11,7 @@ use borrow.Author.Tests.{eq-eqb}
 use Rattle.jhash.specs.NameHash.{hash_of}
 use Rattle.image.specs.Bytes.{word, cat}
 use Rattle.image.specs.Head.{table_at, bucket_number, back_size_at}
-use Rattle.image.specs.Image.{Entry, Placed, head_size, entry_bytes, placed, in_table, of_table, count, bucket_of, entries_before, table_offset, flag_word}
+use Rattle.image.specs.Image.{Entry, Placed, head_size, entry_bytes, placed, in_table_lem, of_table, count, bucket_of, entries_before, table_offset, flag_word}
 use Rattle.image.specs.Image.{back_size, back_in, back_offset, entries_end, image_size, image}
 use Rattle.image.specs.Stored.{whole, entries_in, between}
 use Rattle.image.specs.Tables.{Bucket, table_of}
@@ -22,7 +22,7 @@ use Rattle.image.proofs.EntryAt.{all_placed, ids_below}
 use Rattle.image.proofs.AllOfList.{All, all_map, all_both}
 use Rattle.image.proofs.Sizes.{length_entries}
 use Rattle.serialize.proofs.Pairwise.{all_tested}
-use Rattle.lookup_laws.proofs.ImageOpening.{opening-image}
+use Rattle.lookup_laws.proofs.ImageOpening.{opening_image}
 use Rattle.lists.proofs.Parse.{AllWordSized, parsed, parsed_whole}
 use Rattle.image.specs.declared.Mode.{Mode}
 use Rattle.image.specs.declared.Mode.TheVariants.{Twoway, Oneway}
@@ -37,7 +37,7 @@ use Rattle.canonical.proofs.InPlace.{InPlace}
 use Rattle.canonical.proofs.BackArray.{all_own, back_words_match}
 use Rattle.canonical.proofs.FilledTable.{filled_matches}
 use Rattle.canonical.proofs.ReadBack.{all_wordly, ids_of, flag_of_image}
-use Rattle.canonical.proofs.TableChecks.{table_checked, Row, row_checked, row_place, counts_checked, row_count, rows_before}
+use Rattle.canonical.proofs.TableChecks.{table_checked, Row, row_checked, row_place, counts_checked, row_count_lem, rows_before}
 use Rattle.canonical.proofs.EntryChecks.{Body, body_checked, Free, InBucket, bucket_checked, entries_checked, ahead_checked}
 use Rattle.canonical.proofs.ImageInPlace.{image_in_place}
 use Rattle.canonical.proofs.RisingOffsets.{all_rise, table_rises}
@@ -71,7 +71,7 @@ module _ (mode : Mode) (es : List Entry) (each : All Storable es) (fits : image_
 
   ends : end_in img n ≡ entries_end es
   unfolding n
-  ends = omega (arith, ip.total, ip.back-size)
+  ends = omega (arith, ip.total, ip.back_size_lem)
 
   area_is : between img head_size (end_in img n) ≡ cat entry_bytes es
   area_is =
@@ -105,7 +105,7 @@ module _ (mode : Mode) (es : List Entry) (each : All Storable es) (fits : image_
   matches : (t : ℕ) → t < 256 → TableMatches (2 * row_count img t) (bucket_at img (table_place img (end_in img n) t)) (map bucket_of (of_table t ps))
   unfolding ps
   matches t h =
-      rw (place_is t h, row_count img ps numbers t h)
+      rw (place_is t h, row_count_lem img ps numbers t h)
       (filled_matches (2 * count t ps) (bucket_at img (entries_end es + 16 * entries_before t ps)) (map bucket_of (of_table t ps))
       (omega (arith, length-map (of_table t ps) bucket_of)) (table_rises es t) (ip.tables t h))
 
@@ -113,7 +113,7 @@ module _ (mode : Mode) (es : List Entry) (each : All Storable es) (fits : image_
   unfolding table_offset ps
   row t h =
       let m = matches t h in
-      let c = row_count img ps numbers t h in
+      let c = row_count_lem img ps numbers t h in
       record {
         number = omega (arith, c, numbers t h);
         offset = (ip.rows t h).0 ∙ sym (ap₂ (λ (k o : ℕ). cond (eqb k 0) 0 o) c (place_is t h));
@@ -131,10 +131,10 @@ module _ (mode : Mode) (es : List Entry) (each : All Storable es) (fits : image_
   unfolding of_table
   buckets =
       all_map (λ p s. bucket_checked img (bucket_of p) (s (eq-eqb (table_of (hash_of p.entry.name)) _ refl))) ps
-      (all_own (λ (t : ℕ) (p : Placed). in_table t p ≡ true → Stands (bucket_number img t) (bucket_at img (table_at img t)) (bucket_of p))
+      (all_own (λ (t : ℕ) (p : Placed). in_table_lem t p ≡ true → Stands (bucket_number img t) (bucket_at img (table_at img t)) (bucket_of p))
       (λ (p : Placed). table_of (hash_of p.entry.name)) 256 ps (all_map (λ p s. mod-lt (hash_of p.entry.name) (omega arith)) ps names)
       (λ t h. all_map (λ p s i. moved t h (bucket_of p) (s i)) ps
-      (all_tested (Stands (2 * row_count img t) (bucket_at img (table_place img (end_in img n) t))) bucket_of (in_table t) ps (matches t h).stand)))
+      (all_tested (Stands (2 * row_count img t) (bucket_at img (table_place img (end_in img n) t))) bucket_of (in_table_lem t) ps (matches t h).stand)))
     where
       moved : (t : ℕ) (h : t < 256) (b : Bucket) → Stands (2 * row_count img t) (bucket_at img (table_place img (end_in img n) t)) b
           → Stands (bucket_number img t) (bucket_at img (table_at img t)) b
@@ -150,11 +150,11 @@ module _ (mode : Mode) (es : List Entry) (each : All Storable es) (fits : image_
   matched : mode ≡ Twoway → BackArrayMatches (back_size_at img) (back_word_at img (end_in img n + 16 * n)) ps
   unfolding ps
   matched two =
-      let back : back_size_at img ≡ back_size es = ip.back-size ∙ ap (λ (f : Mode). back_in f (back_size es)) two in
+      let back : back_size_at img ≡ back_size es = ip.back_size_lem ∙ ap (λ (f : Mode). back_in f (back_size es)) two in
       rw back_words_at
       (back_words_match (back_word_at img (entries_end es + 16 * length es)) (back_size_at img) ps (all_rise es)
       (all_placed (λ (e : Entry). e.id < back_size_at img) head_size es (ids_below es (back_size_at img) (omega arith)))
-      (λ i h. ip.back-words i (omega (arith, ip.back-size))))
+      (λ i h. ip.back_words_lem i (omega (arith, ip.back_size_lem))))
 
   -- what the checks of the back words ask, in either mode
   abbrev Linked : Mode → Type 0
@@ -188,9 +188,9 @@ module _ (mode : Mode) (es : List Entry) (each : All Storable es) (fits : image_
         ap₂ (λ (two : Bool) (l : List Entry). entries_ok img two (end_in img n + 16 * n) (placed head_size l)) two_is entries_are ∙ valid;
     counts = ap (λ (l : List Entry). counts_match img (tallied (replicate 256 0) l)) entries_are ∙ counts;
     backs =
-        ip.back-size
+        ip.back_size_lem
         ∙ sym (ap₂ (λ (f : Mode) (l : List Entry). back_in f (back_size l)) flags entries_are);
-    back-words =
+    back_words_lem =
         ap₂ (λ (two : Bool) (l : List Entry). cond two (back_words_counted img (end_in img n + 16 * n) (back_size_at img) (placed head_size l)) true)
         two_is entries_are
         ∙ lasts.1;
@@ -202,11 +202,11 @@ module _ (mode : Mode) (es : List Entry) (each : All Storable es) (fits : image_
   checked : Checked img n
   unfolding img n back_offset
   checked = record {
-    opened = opening-image mode es fits;
+    opened = opening_image mode es fits;
     size = ip.size;
     flag = small mode ip.flag;
-    room = omega (arith, ip.total, ip.back-size);
-    back-offset = ip.back-offset ∙ sym (ap₂ (λ (b : ℕ) (o : ℕ). cond (eqb b 0) 0 o) ip.back-size back_words_at);
+    room = omega (arith, ip.total, ip.back_size_lem);
+    back_offset_lem = ip.back_offset_lem ∙ sym (ap₂ (λ (b : ℕ) (o : ℕ). cond (eqb b 0) 0 o) ip.back_size_lem back_words_at);
     body = body_checked img n (end_in img n) (back_size_at img) body;
   }
     where

@@ -18,13 +18,13 @@ use Rattle.image.specs.Stored.{whole, between}
 use Rattle.image.specs.Tables.{table_of, Filled}
 use Rattle.image.specs.Tally.{tallied}
 use Rattle.image.specs.Zero.{has_zero}
-use Rattle.image.proofs.EntryArea.{AllBytes, bytes_drop, bytes_take, whole-bytes, length-entries_in, ids_words}
+use Rattle.image.proofs.EntryArea.{AllBytes, bytes_drop, bytes_take, whole_bytes, length-entries_in, ids_words}
 use Rattle.image.proofs.At.{At}
 use Rattle.image.proofs.Bools.{and_first, and_second}
 use Rattle.image.proofs.EntryAt.{all_placed, ids_below}
-use Rattle.image.proofs.AllOfList.{All, all_map, all-image}
+use Rattle.image.proofs.AllOfList.{All, all_map, all_image}
 use Rattle.image.proofs.Sizes.{length_entries}
-use Rattle.writer.proofs.Agree.{zeros, tallied-count}
+use Rattle.writer.proofs.Agree.{zeros, tallied_count}
 use Rattle.image.specs.declared.Mode.{Mode}
 use Rattle.image.specs.declared.Mode.TheVariants.{Twoway, Oneway}
 use Rattle.canonical.specs.Canonical.{mode_in}
@@ -38,7 +38,7 @@ use Rattle.canonical.proofs.BackArray.{matching_back_word}
 use Rattle.canonical.proofs.FilledTable.{matching_filled}
 use Rattle.canonical.proofs.RisingOffsets.{all_rise, table_rises}
 use Rattle.canonical.proofs.ReadBack.{storables}
-use Rattle.canonical.proofs.TableChecks.{opens, table_facts, Row, row_facts, row_place, counts_facts, row_count, rows_before}
+use Rattle.canonical.proofs.TableChecks.{opens, table_facts, Row, row_facts, row_place, counts_facts, row_count_lem, rows_before}
 use Rattle.canonical.proofs.EntryChecks.{Body, body_facts, Free, InBucket, bucket_facts, entries_facts, to_table, ahead_facts}
 use Rattle.canonical.proofs.InPlaceImage.{in_place_image}
 
@@ -51,7 +51,7 @@ unplaced Q o (e ∷ es) a = (a.0, unplaced Q (o + entry_size e) es a.1)
 -- the tally of entries
 pub counts_are : (es : List Entry) (t : ℕ) → t < 256 → get_or (tallied (replicate 256 0) es) t 0 ≡ count t (placed head_size es)
 counts_are es t h =
-    let tally = tallied-count es (replicate 256 0) head_size t (omega (arith, length-replicate {A = ℕ} 256 0)) in
+    let tally = tallied_count es (replicate 256 0) head_size t (omega (arith, length-replicate {A = ℕ} 256 0)) in
     omega (arith, zeros 256 t)
 
 module _ (img : List ℕ) (n : ℕ) (bytes : AllBytes img) (c : Checked img n) where
@@ -72,7 +72,7 @@ module _ (img : List ℕ) (n : ℕ) (bytes : AllBytes img) (c : Checked img n) w
 
   area_is : between img head_size (end_in img n) ≡ cat entry_bytes es
   unfolding es
-  area_is = whole-bytes n (between img head_size (end_in img n)) area_bytes b.wholes
+  area_is = whole_bytes n (between img head_size (end_in img n)) area_bytes b.wholes
 
   ends : end_in img n ≡ entries_end es
   ends =
@@ -101,9 +101,9 @@ module _ (img : List ℕ) (n : ℕ) (bytes : AllBytes img) (c : Checked img n) w
         | no d ↦ rw (ne_eqb (word img 8) 0 d) (omega (arith, c.flag))
       ]
 
-  back-offset : back_offset_at img ≡ back_offset mode es
+  back_offset_lem : back_offset_at img ≡ back_offset mode es
   unfolding back_offset
-  back-offset = c.back-offset ∙ ap₂ (λ (b : ℕ) (o : ℕ). cond (eqb b 0) 0 o) backs back_words_at
+  back_offset_lem = c.back_offset_lem ∙ ap₂ (λ (b : ℕ) (o : ℕ). cond (eqb b 0) 0 o) backs back_words_at
 
   entries_there : At img head_size (cat entry_bytes es)
   entries_there = record {
@@ -131,7 +131,7 @@ module _ (img : List ℕ) (n : ℕ) (bytes : AllBytes img) (c : Checked img n) w
 
   offset : (t : ℕ) → t < 256 → table_at img t ≡ table_offset (entries_end es) ps t
   unfolding table_offset place
-  offset t h = (row t h).offset ∙ ap₂ (λ (k o : ℕ). cond (eqb k 0) 0 o) (row_count img ps numbers t h) (place_is t h)
+  offset t h = (row t h).offset ∙ ap₂ (λ (k o : ℕ). cond (eqb k 0) 0 o) (row_count_lem img ps numbers t h) (place_is t h)
 
   -- ---- entries in tables and back words
 
@@ -151,12 +151,12 @@ module _ (img : List ℕ) (n : ℕ) (bytes : AllBytes img) (c : Checked img n) w
   unfolding ps place
   table t h =
       let facts = table_facts img (table_place img (end_in img n) t) (row_count img t) (row t h).table in
-      let (zeros, used) = rw (place_is t h, row_count img ps numbers t h) at facts in
+      let (zeros, used) = rw (place_is t h, row_count_lem img ps numbers t h) at facts in
       matching_filled (2 * count t ps) (bucket_at img (place t)) (map bucket_of (of_table t ps)) (table_rises es t)
       record {
         zeros = zeros;
         used = used ∙ sym (length-map (of_table t ps) bucket_of);
-        stand = all-image (Stands (2 * count t ps) (bucket_at img (place t))) bucket_of one (of_table t ps) (to_table _ t ps names);
+        stand = all_image (Stands (2 * count t ps) (bucket_at img (place t))) bucket_of one (of_table t ps) (to_table _ t ps names);
       }
     where
       one : (p : Placed) → (Free p × InBucket img p) × (table_of (hash_of p.entry.name) ≡ t) → Stands (2 * count t ps) (bucket_at img (place t)) (bucket_of p)
@@ -164,9 +164,9 @@ module _ (img : List ℕ) (n : ℕ) (bytes : AllBytes img) (c : Checked img n) w
           let d = rw e at (bucket_facts img (bucket_of p) r.1) in
           rw (row_place img (end_in img n) (row t h) (omega (arith, d.inside)) ∙ place_is t h, numbers t h) at d
 
-  back-words : (i : ℕ) → i < back_size_of mode es → back_word (placed head_size es) i ≡ back_word_at img (entries_end es + 16 * length es) i
+  back_words_lem : (i : ℕ) → i < back_size_of mode es → back_word (placed head_size es) i ≡ back_word_at img (entries_end es + 16 * length es) i
   unfolding mode es ps
-  back-words i h = rw back_words_at at (by_mode (two_way img) b.backs checks b.back-words h)
+  back_words_lem i h = rw back_words_at at (by_mode (two_way img) b.backs checks b.back_words_lem h)
     where
       o : ℕ
       o = end_in img n + 16 * n
@@ -192,13 +192,13 @@ module _ (img : List ℕ) (n : ℕ) (bytes : AllBytes img) (c : Checked img n) w
     size = c.size;
     flag = flag;
     order = (opens img n c.opened).order;
-    back-size = backs;
-    back-offset = back-offset;
+    back_size_lem = backs;
+    back_offset_lem = back_offset_lem;
     total = total;
     rows = λ t h. (offset t h, numbers t h);
     entries = entries_there;
     tables = table;
-    back-words = back-words;
+    back_words_lem = back_words_lem;
   }
 
   pub checked_made : Made img

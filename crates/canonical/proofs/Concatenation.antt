@@ -8,7 +8,7 @@ use lib.Seq.{drop-append_seam, drop-drop}
 use Rattle.image.specs.Bytes.{word, le32, cat, range}
 use Rattle.image.proofs.EntryArea.{AllBytes, bytes_drop, front_word}
 use Rattle.image.proofs.At.{At, at_same}
-use Rattle.image.proofs.Words.{word-drop, length-le32}
+use Rattle.image.proofs.Words.{word_drop, length_le32}
 
 pub at_nothing : (img : List ℕ) (o : ℕ) → At img o []
 at_nothing img o = record { post = drop o img; stands = refl }
@@ -64,7 +64,7 @@ at_le32 img o w bytes h e = record {
   stands =
       let z : o + 0 ≡ o = omega arith in
       front_word (drop o img) (bytes_drop o img bytes) (omega (arith, length-drop o img))
-      ∙ ap (λ (k : ℕ). le32 k ++ drop 4 (drop o img)) (word-drop img o 0 ∙ ap (word img) z ∙ e);
+      ∙ ap (λ (k : ℕ). le32 k ++ drop 4 (drop o img)) (word_drop img o 0 ∙ ap (word img) z ∙ e);
 }
 
 -- words one after the other
@@ -76,4 +76,4 @@ pub at_words : (img : List ℕ) (o : ℕ) (ws : List ℕ) → AllBytes img → o
 unfolding cat
 at_words img o [] bytes h are = at_nothing img o
 at_words img o (w ∷ ws) bytes h are =
-    at_join (at_le32 img o w bytes (omega arith) are.0) (ap (λ (n : ℕ). o + n) (length-le32 w)) (at_words img (o + 4) ws bytes (omega arith) are.1)
+    at_join (at_le32 img o w bytes (omega arith) are.0) (ap (λ (n : ℕ). o + n) (length_le32 w)) (at_words img (o + 4) ws bytes (omega arith) are.1)

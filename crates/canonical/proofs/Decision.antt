@@ -15,25 +15,25 @@ use Rattle.image.proofs.Bools.{false_not_true}
 use Rattle.reader.specs.Open.{opening}
 use Rattle.canonical.specs.Canonical.{canonical}
 use Rattle.canonical.specs.Steps.Checks.{end_in, Checked, body_ok}
-use Rattle.canonical.proofs.ReadBack.{canonical-yes, canonical_only}
+use Rattle.canonical.proofs.ReadBack.{canonical_yes, canonical_only}
 use Rattle.canonical.proofs.TableChecks.{never_value}
 use Rattle.canonical.proofs.ChecksSuffice.{checked_made}
 use Rattle.canonical.proofs.ChecksHold.{canonical_checked}
 
-not-canonical : (img : List ℕ) → AllBytes img → ((m : ℕ) → Checked img m → ⊥) → false ≡ canonical img
-not-canonical img bytes d = answer_false (canonical img) refl
+not_canonical : (img : List ℕ) → AllBytes img → ((m : ℕ) → Checked img m → ⊥) → false ≡ canonical img
+not_canonical img bytes d = answer_false (canonical img) refl
   where
     answer_false : (r : Bool) → canonical img ≡ r → false ≡ r
     answer_false false e = refl
     answer_false true e = let made = canonical_only img bytes e in absurd (d (length made.puts) (canonical_checked img made))
 
 pub never_opened : (img : List ℕ) (k : ℕ) → opening img ≡ refusal k → AllBytes img → false ≡ canonical img
-never_opened img k e bytes = not-canonical img bytes (λ m c. never_value k m (sym e ∙ c.opened))
+never_opened img k e bytes = not_canonical img bytes (λ m c. never_value k m (sym e ∙ c.opened))
 
 module _ (img : List ℕ) (n : ℕ) (bytes : AllBytes img) (opened : opening img ≡ value n) where
   -- one check fails
   pub refuse : (Checked img n → ⊥) → false ≡ canonical img
-  refuse d = not-canonical img bytes (λ m c. d (same m c (sym c.opened ∙ opened)))
+  refuse d = not_canonical img bytes (λ m c. d (same m c (sym c.opened ∙ opened)))
     where
       same : (m : ℕ) → Checked img m → value m ≡ value n → Checked img n
       same m c e = let f : m ≡ n = cc in rw f at c
@@ -46,7 +46,7 @@ module _ (img : List ℕ) (n : ℕ) (bytes : AllBytes img) (opened : opening img
     where
       by_answer : (r : Bool) → r ≡ body_ok img n (end_in img n) (back_size_at img) → r ≡ canonical img
       by_answer true e =
-          sym (canonical-yes img
+          sym (canonical_yes img
           (checked_made img n bytes
-          record { opened = opened; size = size; flag = flag; room = omega arith; back-offset = rw (ee, eb) at offset; body = sym e }))
+          record { opened = opened; size = size; flag = flag; room = omega arith; back_offset_lem = rw (ee, eb) at offset; body = sym e }))
       by_answer false e = refuse (λ c. false_not_true (e ∙ c.body))

@@ -9,16 +9,16 @@ use Rattle.image.specs.Bytes.{word, cat}
 use Rattle.image.specs.Image.{Entry, head_size, entry_bytes}
 use Rattle.image.specs.Steps.Contracts.{NameAtPre, NameRead}
 use Rattle.image.proofs.At.{At, at_same, at_equal, at_left, at_right}
-use Rattle.image.proofs.EntryAt.{entry_fits, id_word, length-word, name_bytes}
+use Rattle.image.proofs.EntryAt.{entry_fits, id_word, length_word, name_bytes}
 use Rattle.image.proofs.EntryArea.{length-entries_in}
-use Rattle.image.proofs.Lists.{cat-cons}
+use Rattle.image.proofs.Lists.{cat_cons}
 use Rattle.image.proofs.Parts.{entries_at}
-use Rattle.image.proofs.Sizes.{length-entry_bytes, length-image}
+use Rattle.image.proofs.Sizes.{length-entry_bytes, length_image}
 use Rattle.reader.specs.Open.{opening}
 use Rattle.lists.proofs.Parse.{AllWordSized}
 use Rattle.canonical.specs.Canonical.{counted, puts_in}
 use Rattle.canonical.specs.Steps.Contracts.{CanonicalWithEntries}
-use Rattle.canonical.proofs.ReadBack.{all_wordly, ids_of, made-puts, canonical_only}
+use Rattle.canonical.proofs.ReadBack.{all_wordly, ids_of, made_puts, canonical_only}
 
 -- `left` entries are ahead of the place `at`
 pub record Ahead (P : ℕ → List Entry → Type 0) (img : List ℕ) (at left : ℕ) : Type 0 where
@@ -47,7 +47,7 @@ module _ {P : ℕ → List Entry → Type 0} {img : List ℕ} where
   pub ahead_starts : (n : ℕ) → AllBytes img → CanonicalWithEntries img n → P head_size (puts_in img) → Ahead P img head_size n
   ahead_starts n bytes c p =
       let m = canonical_only img bytes c.canonical in
-      let puts = made-puts img m in
+      let puts = made_puts img m in
       let fits = m.fits in
       let size = ap length m.is in
       record {
@@ -55,7 +55,7 @@ module _ {P : ℕ → List Entry → Type 0} {img : List ℕ} where
         number = ap length (sym puts) ∙ puts_number img ∙ sym c.number;
         there = rw m.is at (entries_at m.mode m.puts);
         words = all_wordly m.puts (ids_of m.puts m.each) (omega arith);
-        short = omega (arith, length-image m.mode m.puts);
+        short = omega (arith, length_image m.mode m.puts);
         holds = subst (P head_size) puts p;
       }
 
@@ -73,7 +73,7 @@ module _ {P : ℕ → List Entry → Type 0} {img : List ℕ} where
         first_ahead : (es : List Entry) → length es ≡ left → At img at (cat entry_bytes es) → AllWordSized es → P at es → Turn P img at left
         first_ahead [] n a s p = absurd (omega arith)
         first_ahead (e ∷ es) n a s p =
-            record { entry = e; rest = es; number = n; there = at_equal (cat-cons entry_bytes e es) a; words = s; short = w.short; holds = p }
+            record { entry = e; rest = es; number = n; there = at_equal (cat_cons entry_bytes e es) a; words = s; short = w.short; holds = p }
 
   module _ {at left : ℕ} (t : Turn P img at left) where
     entry_at : At img at (entry_bytes t.entry)
@@ -84,7 +84,7 @@ module _ {P : ℕ → List Entry → Type 0} {img : List ℕ} where
 
     module _ {len : ℕ} (e : len ≡ word img (at + 4)) where
       pub length_is : len ≡ length t.entry.name + 1
-      length_is = e ∙ length-word t.entry entry_at t.words.0.length-word
+      length_is = e ∙ length_word t.entry entry_at t.words.0.length_word
 
       pub inside : NameAtPre img at len
       inside = record { inside = omega (arith, length_is, entry_fits t.entry entry_at); some = omega (arith, length_is) }

@@ -11,7 +11,7 @@ use borrow.Author.Tests.{eqb-true, eqb-false, eq-eqb, ne_eqb, le-ltb, ltb-false,
 use Rattle.jhash.specs.NameHash.{hash_of}
 use Rattle.image.specs.Bytes.{word, filter}
 use Rattle.image.specs.Head.{table_at, bucket_number}
-use Rattle.image.specs.Image.{Placed, head_size, in_table, of_table, back_size, back_in}
+use Rattle.image.specs.Image.{Placed, head_size, in_table_lem, of_table, back_size, back_in}
 use Rattle.image.specs.Stored.{whole, between}
 use Rattle.image.specs.Tally.{tallied}
 use Rattle.image.specs.Tables.{Bucket, table_of, start}
@@ -87,10 +87,10 @@ module _ (img : List ℕ) (two : Bool) (o : ℕ) where
 pub to_table : (P : Placed → Type 0) (t : ℕ) (ps : List Placed) → All P ps → All (λ (p : Placed). P p × (table_of (hash_of p.entry.name) ≡ t)) (of_table t ps)
 unfolding of_table filter
 to_table P t [] a = tt
-to_table P t (p ∷ ps) a = with_first (in_table t p) refl (to_table P t ps a.1)
+to_table P t (p ∷ ps) a = with_first (in_table_lem t p) refl (to_table P t ps a.1)
   where
-    with_first : (b : Bool) → in_table t p ≡ b → All (λ (p : Placed). P p × (table_of (hash_of p.entry.name) ≡ t)) (filter (in_table t) ps)
-        → All (λ (p : Placed). P p × (table_of (hash_of p.entry.name) ≡ t)) (cond b (p ∷ filter (in_table t) ps) (filter (in_table t) ps))
+    with_first : (b : Bool) → in_table_lem t p ≡ b → All (λ (p : Placed). P p × (table_of (hash_of p.entry.name) ≡ t)) (filter (in_table_lem t) ps)
+        → All (λ (p : Placed). P p × (table_of (hash_of p.entry.name) ≡ t)) (cond b (p ∷ filter (in_table_lem t) ps) (filter (in_table_lem t) ps))
     with_first true e rest = ((a.0, eqb-true (table_of (hash_of p.entry.name)) t e), rest)
     with_first false e rest = rest
 
@@ -110,7 +110,7 @@ pub record Body (img : List ℕ) (n end back : ℕ) : Type 0 where
   pub entries : entries_ok img (two_way img) (end + 16 * n) (placed_from img end n head_size) ≡ true
   pub counts : counts_match img (tallied (replicate 256 0) (entries_to img end n)) ≡ true
   pub backs : back ≡ back_in (mode_in img) (back_size (entries_to img end n))
-  pub back-words : cond (two_way img) (back_words_counted img (end + 16 * n) back (placed_from img end n head_size)) true ≡ true
+  pub back_words_lem : cond (two_way img) (back_words_counted img (end + 16 * n) back (placed_from img end n head_size)) true ≡ true
 
 pub body_facts : (img : List ℕ) (n end back : ℕ) → body_ok img n end back ≡ true → Body img n end back
 unfolding body_ok
@@ -118,7 +118,7 @@ body_facts img n end back h =
     let valid = entries_valid img end n (two_way img) (end + 16 * n) in
     let counted = counts_match img (tallied (replicate 256 0) (entries_to img end n)) in
     let backs : ℕ = back_in (mode_in img) (back_size (entries_to img end n)) in
-    let (first, back_is, back-words) = and3_facts (rows_ok img end && valid && counted) (eqb back backs) _ h in
+    let (first, back_is, back_words_lem) = and3_facts (rows_ok img end && valid && counted) (eqb back backs) _ h in
     let (rows, entries, counts) = and3_facts (rows_ok img end) valid counted first in
     let wholes = whole n (between img head_size end) in
     record {
@@ -127,10 +127,10 @@ body_facts img n end back h =
       entries = and_second wholes _ entries;
       counts = counts;
       backs = eqb-true back backs back_is;
-      back-words = back-words;
+      back_words_lem = back_words_lem;
     }
 
 pub body_checked : (img : List ℕ) (n end back : ℕ) → Body img n end back → body_ok img n end back ≡ true
 unfolding body_ok
 body_checked img n end back t =
-    rw (t.rows, t.wholes, t.entries, t.counts, eq-eqb back (back_in (mode_in img) (back_size (entries_to img end n))) t.backs) t.back-words
+    rw (t.rows, t.wholes, t.entries, t.counts, eq-eqb back (back_in (mode_in img) (back_size (entries_to img end n))) t.backs) t.back_words_lem

@@ -14,7 +14,7 @@ use Rattle.image.specs.Steps.EntryLength.{whole_length}
 use Rattle.image.specs.Tally.{raised_counts}
 use Rattle.image.proofs.Between.{Front, front, EntryRoom, entry_room}
 use Rattle.image.proofs.Bools.{false_not_true}
-use Rattle.image.proofs.EntryWalk.{Rest, first-id, first-name, entries_rest, walk_start, walk_step, walk-broken, walk_end}
+use Rattle.image.proofs.EntryWalk.{Rest, first_id_lem, first_name_lem, entries_rest, walk_start, walk_step, walk_broken, walk_end}
 use Rattle.canonical.specs.Steps.Checks.{entry_name, name_ok, not_before, entries_ok, entries_valid, placed_from}
 use Rattle.canonical.specs.Steps.HiddenBuckets.{in_cells, own_back_words}
 use Rattle.canonical.specs.Steps.InPlace.{back_word_at}
@@ -62,7 +62,7 @@ module _ {img : List ℕ} {end entries : ℕ} {two : Bool} {o : ℕ} {counts₀ 
   entering_broken n is z =
       not_valid
       (ap (λ (b : Bool). b && entries_ok img two o (placed_from img end entries 2072))
-      (walk-broken img end entries counts₀ at left back counts e.rest some (sym z ∙ is)))
+      (walk_broken img end entries counts₀ at left back counts e.rest some (sym z ∙ is)))
 
   pub entering_inside : (n : ℕ) → n ≡ whole_length (between img at end) → (n ≡ 0 → ⊥) → EntryRoom img at end n
   entering_inside n is nz = entry_room img at end n e.rest.inside k is nz
@@ -72,7 +72,7 @@ module _ {img : List ℕ} {end entries : ℕ} {two : Bool} {o : ℕ} {counts₀ 
     there = front (between img at end) n r.length_is r.whole
 
     name_is : (first_entry (between img at end)).name ≡ entry_name img at n
-    name_is = first-name img at end n (left - 1) e.rest.inside k there
+    name_is = first_name_lem img at end n (left - 1) e.rest.inside k there
 
     size_is : entry_size (first_entry (between img at end)) ≡ 8 + n
     size_is =
@@ -93,7 +93,7 @@ module _ {img : List ℕ} {end entries : ℕ} {two : Bool} {o : ℕ} {counts₀ 
 
     back_word_is : word img (o + 4 * (first_entry (between img at end)).id) ≡ w
     back_word_is =
-        ap (λ (i : ℕ). word img (o + 4 * i)) (first-id img at end n (left - 1) e.rest.inside k there ∙ sym r.id_is)
+        ap (λ (i : ℕ). word img (o + 4 * i)) (first_id_lem img at end n (left - 1) e.rest.inside k there ∙ sym r.id_is)
         ∙ sym r.back_word_is
 
     entries_step : entries_ok img two o (placed_from img end left at) ≡ (p && q && entries_ok img two o later)
@@ -133,7 +133,7 @@ unfolding entries_ok in_cells placed entries_in
 entering_end {img} {end} {entries} {two} {o} {counts₀} {at} {back} {lasts} {counts} e k =
     let w = walk_end img end entries counts₀ at back counts k e.rest in
     let all : true ≡ entries_ok img two o (placed_from img end entries 2072) = e.valid_same in
-    let back-words : lasts + 0 ≡ own_back_words (back_word_at img o) (placed_from img end entries 2072) = e.lasts_same in
+    let back_words_lem : lasts + 0 ≡ own_back_words (back_word_at img o) (placed_from img end entries 2072) = e.lasts_same in
     record {
       valid = w.0 ∙ sym (and-true (whole entries (between img 2072 end))) ∙ ap (λ (b : Bool). whole entries (between img 2072 end) && b) all;
       back = λ y. w.1;

@@ -24,7 +24,7 @@ use Rattle.canonical.specs.Canonical.{canonical}
 use Rattle.jhash.specs.Word.{AllBytes}
 use Rattle.canonical.specs.Examples.Rows.{CanonicalRow, Holds, canonical_rows, HeadOnly, head_only_rows}
 use Rattle.canonical.specs.Steps.Checks.{end_in}
-use Rattle.canonical.proofs.ReadBack.{canonical-yes, canonical_only}
+use Rattle.canonical.proofs.ReadBack.{canonical_yes, canonical_only}
 use Rattle.canonical.proofs.ChecksHold.{canonical_checked}
 use Rattle.canonical.proofs.Theorem.{canonical_holds}
 
@@ -36,7 +36,7 @@ holds_in : (r : CanonicalRow) → Computed r → Holds r
 holds_in r c buffer long =
     let room : head_size ≤ length buffer = omega (arith, c.0) in
     let of = canonical_holds.of_list r.mode r.repeats buffer r.calls room c.1 in (
-      of.is-canonical,
+      of.is_canonical,
       of.read_back
           ∙ list_accepted r.mode r.repeats buffer room r.calls c.1
           ∙ ap (λ (n : ℕ). accepted r.mode r.repeats n r.calls) long
@@ -62,19 +62,19 @@ rows_hold = all_map holds_in canonical_rows computed
 -- ---- bytes without an entry: what is read of them is computed, not the decision
 
 -- the empty one-way image
-empty-image : image Oneway [] ≡ head_bytes 2072 1 0 0 ++ replicate 2048 0
+empty_image : image Oneway [] ≡ head_bytes 2072 1 0 0 ++ replicate 2048 0
 unfolding le32 cat filter range entry_bytes entries_size placed of_table bucket_bytes table table_bytes entries_before table_offset table_row back_size placed_of_id
     last_from back_word back_offset head_bytes head_words table_rows tables back_words image probe_sequence first_empty insert insert_all filled
-empty-image = refl
+empty_image = refl
 
-empty-fits : image_size Oneway [] ≤ 4294967295
+empty_fits : image_size Oneway [] ≤ 4294967295
 unfolding entries_size
-empty-fits = lit≤ tt
+empty_fits = lit≤ tt
 
-empty-canonical : canonical (head_bytes 2072 1 0 0 ++ replicate 2048 0) ≡ true
-empty-canonical =
-    canonical-yes (head_bytes 2072 1 0 0 ++ replicate 2048 0)
-    record { mode = Oneway; puts = []; each = tt; fits = empty-fits; is = empty-image }
+empty_canonical : canonical (head_bytes 2072 1 0 0 ++ replicate 2048 0) ≡ true
+empty_canonical =
+    canonical_yes (head_bytes 2072 1 0 0 ++ replicate 2048 0)
+    record { mode = Oneway; puts = []; each = tt; fits = empty_fits; is = empty_image }
 
 -- bytes that are looked at one by one, and bytes behind them
 bytes_behind : (l r : List ℕ) → All (λ (x : ℕ). x < 256) l → AllBytes r → AllBytes (l ++ r)
@@ -92,9 +92,9 @@ each_below [] h = tt
 each_below (x ∷ l) h =
     (ltb-true x 256 (and_first (ltb x 256) (below_256 l) h), each_below l (and_second (ltb x 256) (below_256 l) h))
 
-head_bytes : All (λ (x : ℕ). x < 256) (head_bytes 2072 0 0 2072)
+head_bytes_lem : All (λ (x : ℕ). x < 256) (head_bytes 2072 0 0 2072)
 unfolding head_bytes le32 below_256
-head_bytes = each_below (head_bytes 2072 0 0 2072) refl
+head_bytes_lem = each_below (head_bytes 2072 0 0 2072) refl
 
 -- a back offset without a back array
 no_array : back_size_at (head_bytes 2072 0 0 2072 ++ replicate 2048 0) ≡ 0
@@ -112,12 +112,12 @@ offset_not = answer_false (canonical (head_bytes 2072 0 0 2072 ++ replicate 2048
     answer_false false e = refl
     answer_false true e =
         let bytes = head_bytes 2072 0 0 2072 ++ replicate 2048 0 in
-        let all : AllBytes bytes = bytes_behind (head_bytes 2072 0 0 2072) (replicate 2048 0) head_bytes (λ i. rw (zeros 2048 i) (lit< tt)) in
+        let all : AllBytes bytes = bytes_behind (head_bytes 2072 0 0 2072) (replicate 2048 0) head_bytes_lem (λ i. rw (zeros 2048 i) (lit< tt)) in
         let made = canonical_only bytes all e in
-        let said = (canonical_checked bytes made).back-offset in
+        let said = (canonical_checked bytes made).back_offset_lem in
         let end = end_in bytes (length made.puts) + 16 * length made.puts in
         let z : ◌≡◌ {A = ℕ} 2072 0 = sym an_offset ∙ said ∙ ap (λ (b : ℕ). cond (eqb b 0) 0 end) no_array in
         absurd (omega arith)
 
 pub head_only_rows_hold : map (λ (b : HeadOnly). canonical b.bytes) head_only_rows ≡ map (λ (b : HeadOnly). b.answer) head_only_rows
-head_only_rows_hold = ap₂ (λ (x : Bool) (y : Bool). x ∷ y ∷ []) empty-canonical offset_not
+head_only_rows_hold = ap₂ (λ (x : Bool) (y : Bool). x ∷ y ∷ []) empty_canonical offset_not

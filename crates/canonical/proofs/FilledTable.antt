@@ -14,11 +14,11 @@ use Rattle.image.specs.Tables.{Bucket, empty, at_of, start, probe_sequence, firs
 use Rattle.image.specs.Steps.Contracts.{hidden}
 use Rattle.image.proofs.AllOfList.{All, all_map}
 use Rattle.image.proofs.Buckets.{get_or_empties, length-probe_sequence, first_empty_ext}
-use Rattle.image.proofs.Sizes.{length-insert}
+use Rattle.image.proofs.Sizes.{length_insert}
 use Rattle.lookup_laws.proofs.ProbeSequence.{probe_sequence_at, place_of}
 use Rattle.serialize.proofs.EntryAdded.{first_empty_below}
 use Rattle.canonical.specs.Steps.HiddenBuckets.{bit, used_to, Rising, put_bucket, Stands, TableMatches}
-use Rattle.canonical.proofs.Sums.{bit-yes, bit-no, bit_mono, sum-zero, sum_same, sum_more, used_room}
+use Rattle.canonical.proofs.Sums.{bit_yes, bit_no, bit_mono, sum_zero, sum_same, sum_more, used_room}
 use Rattle.canonical.proofs.Cells as cells
 
 -- the offsets in buckets
@@ -113,10 +113,10 @@ module _ (n : ℕ) (slots : ℕ → Bucket) where
       below =
           elim (dec_lt (offset k) a) [
             | yes l ↦ l
-            | no l ↦ absurd (omega (arith, o k h, cells.own_none put at offset k, bit-yes a (offset k) (omega arith)))
+            | no l ↦ absurd (omega (arith, o k h, cells.own_none put at offset k, bit_yes a (offset k) (omega arith)))
           ]
   filled_from a F (x ∷ bs) sized is r s o k h =
-      filled_from (suc x.at) (insert n F x) bs (length-insert n F x ∙ sized) next r.1 s.1 own_next k h
+      filled_from (suc x.at) (insert n F x) bs (length_insert n F x ∙ sized) next r.1 s.1 own_next k h
     where
       holds : offset (put x) ≡ x.at
       holds = ap at s.0.holds
@@ -126,7 +126,7 @@ module _ (n : ℕ) (slots : ℕ → Bucket) where
       first j l le =
           let self : x.at ≤ x.at = omega arith in
           elim (dec_lt (offset j) x.at) [
-            | yes m ↦ absurd (omega (arith, o j l, own_most j x.at (x ∷ bs) (self, r.1), bit-yes a (offset j) le, bit-no x.at (offset j) m))
+            | yes m ↦ absurd (omega (arith, o j l, own_most j x.at (x ∷ bs) (self, r.1), bit_yes a (offset j) le, bit_no x.at (offset j) m))
             | no m ↦ omega arith
           ]
 
@@ -141,7 +141,7 @@ module _ (n : ℕ) (slots : ℕ → Bucket) where
           let most = own_most j (suc x.at) bs r.1 in
           let le = r.0 in
           elim (ℕ_discrete j (put x)) [
-            | yes e ↦ let f : offset j ≡ x.at = ap offset e ∙ holds in omega (arith, bit-no (suc x.at) (offset j) (omega arith))
+            | yes e ↦ let f : offset j ≡ x.at = ap offset e ∙ holds in omega (arith, bit_no (suc x.at) (offset j) (omega arith))
             | no d ↦ omega (arith, other j l d, bit_mono a (suc x.at) (offset j) (omega arith))
           ]
 
@@ -163,13 +163,13 @@ module _ (n : ℕ) (slots : ℕ → Bucket) where
               elim (dec_lt x.at (offset j)) [
                 | yes m ↦ m
                 | no m ↦
-                    absurd (omega (arith, other j l d, own_next j l, bit-yes a (offset j) (omega arith), bit-no (suc x.at) (offset j) (omega arith)))
+                    absurd (omega (arith, other j l d, own_next j l, bit_yes a (offset j) (omega arith), bit_no (suc x.at) (offset j) (omega arith)))
               ]
 
   pub matching_filled : (bs : List Bucket) → Rising 1 (bucket_offsets bs) → TableMatches n slots bs → Filled n slots bs
   unfolding filled
   matching_filled bs r m = record {
-    each = filled_from 1 (replicate n empty) bs (length-replicate n empty) (λ k h. get_or_empties n k ∙ sym (hidden-all k h)) r m.stand owned;
+    each = filled_from 1 (replicate n empty) bs (length-replicate n empty) (λ k h. get_or_empties n k ∙ sym (hidden_all k h)) r m.stand owned;
   }
     where
       owned : (k : ℕ) → k < n → own k bs ≡ bit 1 (offset k)
@@ -177,8 +177,8 @@ module _ (n : ℕ) (slots : ℕ → Bucket) where
           cells.owned put at offset n bs r (all_map (λ b s. s.inside) bs m.stand)
           (m.used ∙ sym (cells.all_in_cells put at offset bs (all_map (λ b s. ap at s.holds) bs m.stand)))
 
-      hidden-all : (k : ℕ) → k < n → hide 1 (slots k) ≡ empty
-      hidden-all k h =
+      hidden_all : (k : ℕ) → k < n → hide 1 (slots k) ≡ empty
+      hidden_all k h =
           elim (dec_lt (offset k) 1) [
             | yes l ↦ hide_shows 1 (slots k) l ∙ m.zeros k h (omega arith)
             | no l ↦ hide_hides 1 (slots k) (omega arith)
@@ -186,11 +186,11 @@ module _ (n : ℕ) (slots : ℕ → Bucket) where
 
   -- ---- the filled table matches
 
-  inserted-none : Inserted n (replicate n empty) 0 1
-  inserted-none = record {
+  inserted_none : Inserted n (replicate n empty) 0 1
+  inserted_none = record {
     sized = length-replicate n empty;
     zeros = λ k z. get_or_empties n k;
-    used = sum-zero (λ (k : ℕ). bit 1 (at_of (replicate n empty) k)) n (λ k. ap (λ (b : Bucket). bit 1 b.at) (get_or_empties n k));
+    used = sum_zero (λ (k : ℕ). bit 1 (at_of (replicate n empty) k)) n (λ k. ap (λ (b : Bucket). bit 1 b.at) (get_or_empties n k));
     below = λ k. let e = ap at (get_or_empties n k) in omega arith;
   }
 
@@ -221,14 +221,14 @@ module _ (n : ℕ) (slots : ℕ → Bucket) where
 
     inserted_one : Inserted n (insert n F x) (suc m) (suc x.at)
     inserted_one = record {
-      sized = length-insert n F x ∙ t.sized;
+      sized = length_insert n F x ∙ t.sized;
       zeros = λ k z. elim (ℕ_discrete k slot) [
         | yes e ↦ absurd (omega (arith, at_slot k e))
         | no d ↦ kept k d ∙ t.zeros k (sym (ap at (kept k d)) ∙ z)
       ];
       used =
           sum_more (λ (k : ℕ). bit 1 (at_of F k)) (λ (k : ℕ). bit 1 (at_of (insert n F x) k)) slot 1 n slot_in
-          (omega (arith, bit-yes 1 (at_of (insert n F x) slot) (omega (arith, at_slot slot refl)), bit-no 1 (at_of F slot) (omega (arith, slot_empty))))
+          (omega (arith, bit_yes 1 (at_of (insert n F x) slot) (omega (arith, at_slot slot refl)), bit_no 1 (at_of F slot) (omega (arith, slot_empty))))
           (λ k d. ap (λ (b : Bucket). bit 1 b.at) (sym (kept k d)))
           ∙ (let e : used_to (at_of F) n + 1 ≡ suc m = omega (arith, t.used) in e);
       below = λ k. elim (ℕ_discrete k slot) [
@@ -297,5 +297,5 @@ module _ (n : ℕ) (slots : ℕ → Bucket) where
   pub filled_matches : (bs : List Bucket) → length bs ≤ n → Rising 1 (bucket_offsets bs) → Filled n slots bs → TableMatches n slots bs
   unfolding filled
   filled_matches bs room r is =
-      let h = all_hold (replicate n empty) 0 1 bs inserted-none (omega arith) (omega arith) r is.each in
+      let h = all_hold (replicate n empty) 0 1 bs inserted_none (omega arith) (omega arith) r is.each in
       record { zeros = h.zeros; used = omega (arith, h.used); stand = h.stand }

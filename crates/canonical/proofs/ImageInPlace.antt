@@ -6,16 +6,16 @@ use native.Mathlib.Omega.{arith}
 use lib.ListN.{length, get_or}
 use Rattle.jhash.proofs.Outcomes.{hash_of_below}
 use Rattle.image.specs.Bytes.{le32}
-use Rattle.image.specs.Image.{Entry, Placed, head_size, placed, in_table, of_table, count, bucket_of, bucket_bytes, table, entries_before, has_id, placed_of_id}
+use Rattle.image.specs.Image.{Entry, Placed, head_size, placed, in_table_lem, of_table, count, bucket_of, bucket_bytes, table, entries_before, has_id, placed_of_id}
 use Rattle.image.specs.Image.{last_from, back_word, entries_end, image_size, image}
 use Rattle.image.specs.Tables.{Bucket, empty, Filled}
 use Rattle.image.proofs.At.{at_left, at_word, at_second}
-use Rattle.image.proofs.Buckets.{filled-all}
+use Rattle.image.proofs.Buckets.{filled_all}
 use Rattle.image.proofs.EntryAt.{EntryAt, entry_fits, all_entries_at}
-use Rattle.image.proofs.AllOfList.{All, all_filter, all-image}
-use Rattle.image.proofs.Parts.{table_at-image, bucket_number-image, bucket-at, back_word_at, entries_at}
-use Rattle.image.proofs.Sizes.{length-image}
-use Rattle.lookup_laws.proofs.ImageOpening.{letters_image, magic_image, size_image, back_size_at-image, back_offset_at-image}
+use Rattle.image.proofs.AllOfList.{All, all_filter, all_image}
+use Rattle.image.proofs.Parts.{table_at_image, bucket_number_image, bucket_at_lem, back_word_at, entries_at}
+use Rattle.image.proofs.Sizes.{length_image}
+use Rattle.lookup_laws.proofs.ImageOpening.{letters_image, magic_image, size_image, back_size_at_image, back_offset_at_image}
 use Rattle.canonical.proofs.ReadBack.{flag_image}
 use Rattle.image.specs.declared.Mode.{Mode}
 use Rattle.canonical.specs.Steps.InPlace.{bucket_at}
@@ -34,7 +34,7 @@ module _ (mode : Mode) (es : List Entry) (fits : image_size mode es ≤ 42949672
   back_word_below : (i : ℕ) → back_word (placed head_size es) i < 2 ^ 32
   unfolding back_word placed_of_id
   back_word_below i =
-      last_below (image mode es) (omega (arith, length-image mode es)) 0 (placed_of_id i (placed head_size es)) (omega arith)
+      last_below (image mode es) (omega (arith, length_image mode es)) 0 (placed_of_id i (placed head_size es)) (omega arith)
       (all_filter (EntryAt (image mode es)) (λ (p : Placed). has_id i p.entry) (placed head_size es) (all_entries_at mode es))
 
   abbrev Words : Bucket → Type 0
@@ -44,16 +44,16 @@ module _ (mode : Mode) (es : List Entry) (fits : image_size mode es ≤ 42949672
   bucket_words : (t k : ℕ) → Words (get_or (table t ps) k empty)
   unfolding table of_table ps
   bucket_words t =
-      filled-all Words (2 * count t ps) (map bucket_of (of_table t ps)) (omega arith)
-      (all-image Words bucket_of (λ p s. (hash_of_below p.entry.name, omega (arith, length-image mode es, entry_fits p.entry s.there)))
-      (of_table t ps) (all_filter (EntryAt (image mode es)) (in_table t) (placed head_size es) (all_entries_at mode es)))
+      filled_all Words (2 * count t ps) (map bucket_of (of_table t ps)) (omega arith)
+      (all_image Words bucket_of (λ p s. (hash_of_below p.entry.name, omega (arith, length_image mode es, entry_fits p.entry s.there)))
+      (of_table t ps) (all_filter (EntryAt (image mode es)) (in_table_lem t) (placed head_size es) (all_entries_at mode es)))
 
-  table_filled : (t : ℕ) → t < 256 → Filled (2 * count t ps) (bucket_at (image mode es) (entries_end es + 16 * entries_before t ps)) (map bucket_of (of_table t ps))
+  table_filled_lem : (t : ℕ) → t < 256 → Filled (2 * count t ps) (bucket_at (image mode es) (entries_end es + 16 * entries_before t ps)) (map bucket_of (of_table t ps))
   unfolding table ps bucket_bytes
-  table_filled t h = record {
+  table_filled_lem t h = record {
     each = λ k m.
         let b = get_or (table t ps) k empty in
-        let a = bucket-at mode es fits t k h m in
+        let a = bucket_at_lem mode es fits t k h m in
         let w = bucket_words t k in
         let hash_is = at_word b.hash (at_left (le32 b.hash) (le32 b.at) a) w.0 in
         let at-is = at_word b.at (at_second b.hash b.at a) w.1 in
@@ -64,14 +64,14 @@ module _ (mode : Mode) (es : List Entry) (fits : image_size mode es ≤ 42949672
   unfolding ps
   image_in_place = record {
     letters = letters_image mode es;
-    size = size_image mode es fits ∙ sym (length-image mode es);
+    size = size_image mode es fits ∙ sym (length_image mode es);
     flag = flag_image mode es;
     order = magic_image mode es;
-    back-size = back_size_at-image mode es fits;
-    back-offset = back_offset_at-image mode es fits;
-    total = length-image mode es;
-    rows = λ t h. (table_at-image mode es fits t h, bucket_number-image mode es fits t h);
+    back_size_lem = back_size_at_image mode es fits;
+    back_offset_lem = back_offset_at_image mode es fits;
+    total = length_image mode es;
+    rows = λ t h. (table_at_image mode es fits t h, bucket_number_image mode es fits t h);
     entries = entries_at mode es;
-    tables = table_filled;
-    back-words = λ i h. sym (at_word (back_word (placed head_size es) i) (back_word_at mode es fits i h) (back_word_below i));
+    tables = table_filled_lem;
+    back_words_lem = λ i h. sym (at_word (back_word (placed head_size es) i) (back_word_at mode es fits i h) (back_word_below i));
   }

@@ -11,7 +11,7 @@ use Rattle.image.specs.Zero.{has_zero}
 use Rattle.image.specs.declared.Mode.{Mode}
 use Rattle.image.specs.declared.Mode.TheVariants.{Twoway, Oneway}
 use Rattle.image.proofs.AllOfList.{All}
-use Rattle.image.proofs.Sizes.{entries_size-append, length-image}
+use Rattle.image.proofs.Sizes.{entries_size-append, length_image}
 use Rattle.writer.specs.declared.Repeats.{Repeats}
 use Rattle.writer.specs.declared.Repeats.TheVariants.{On}
 use Rattle.lists.specs.Calls.{Call, put, accepted_one, size_of, put_due, accepted_from, accepted, WordIds, put_all}
@@ -23,7 +23,7 @@ use Rattle.lists.proofs.OneMoreClose.{list_image, list_below}
 use Rattle.lists.proofs.Readings.{accepted_free}
 use Rattle.canonical.specs.Steps.Made.{Storable, Made}
 use Rattle.canonical.specs.Canonical.{puts_in, mode_in}
-use Rattle.canonical.proofs.ReadBack.{word-ids, storables, puts-image, flag_of_image}
+use Rattle.canonical.proofs.ReadBack.{word_ids, storables, puts_image, flag_of_image}
 
 -- ---- the image of every list is canonical, and its puts are the accepted ones
 
@@ -31,7 +31,7 @@ module _ (mode : Mode) (repeats : Repeats) (buffer : List ℕ) (room : head_size
   ids : All (λ (e : Entry). e.id < 2 ^ 32) (accepted mode repeats (length buffer) cs)
   ids =
       let w = list_written mode repeats buffer room cs word in
-      word-ids (accepted mode repeats (length buffer) cs) (2 ^ 32) w.ids (omega arith)
+      word_ids (accepted mode repeats (length buffer) cs) (2 ^ 32) w.ids (omega arith)
 
   of_accepted : image_of mode repeats buffer cs ≡ image mode (accepted mode repeats (length buffer) cs)
   unfolding image_of
@@ -49,7 +49,7 @@ module _ (mode : Mode) (repeats : Repeats) (buffer : List ℕ) (room : head_size
   pub list_puts : puts_in (image_of mode repeats buffer cs) ≡ accepted_puts mode repeats buffer cs
   list_puts =
       ap puts_in of_accepted
-      ∙ puts-image mode (accepted mode repeats (length buffer) cs) ids (list_below mode repeats buffer room cs word)
+      ∙ puts_image mode (accepted mode repeats (length buffer) cs) ids (list_below mode repeats buffer room cs word)
       ∙ sym (list_accepted mode repeats buffer room cs word)
 
   pub list_mode : mode_in (image_of mode repeats buffer cs) ≡ mode
@@ -75,22 +75,22 @@ size_of_more mode xs ys =
     omega (arith, size_of_is mode xs, size_of_is mode (xs ++ ys), entries_size-append xs ys, length-append xs ys)
 
 -- in the repeats mode nothing is due to a put whose name has no zero byte, where its size exceeds neither limit
-none-due : (mode : Mode) (n : ℕ) (done : List Entry) (e : Entry) → has_zero e.name ≡ false → size_of mode (done ++ (e ∷ [])) ≤ n
+none_due : (mode : Mode) (n : ℕ) (done : List Entry) (e : Entry) → has_zero e.name ≡ false → size_of mode (done ++ (e ∷ [])) ≤ n
     → size_of mode (done ++ (e ∷ [])) ≤ 4294967295 → put_due mode On n done e ≡ 0
 unfolding put_due
-none-due mode n done e free h k =
+none_due mode n done e free h k =
     rw (free, and-false (contains_name e.name done), le-ltb n (size_of mode (done ++ (e ∷ []))) h, le-ltb 4294967295 (size_of mode (done ++ (e ∷ []))) k)
 
-all-accepted : (mode : Mode) (n : ℕ) (done es : List Entry) → All Storable es → size_of mode (done ++ es) ≤ n → size_of mode (done ++ es) ≤ 4294967295
+all_accepted : (mode : Mode) (n : ℕ) (done es : List Entry) → All Storable es → size_of mode (done ++ es) ≤ n → size_of mode (done ++ es) ≤ 4294967295
     → accepted_from mode On n done (put_all es) ≡ done ++ es
 unfolding accepted_from put_all
-all-accepted mode n done [] a h k = sym (append-nil done)
-all-accepted mode n done (e ∷ es) a h k =
+all_accepted mode n done [] a h k = sym (append-nil done)
+all_accepted mode n done (e ∷ es) a h k =
     let g : (done ++ (e ∷ [])) ++ es ≡ done ++ e ∷ es = append_assoc done (e ∷ []) es in
     let s = ap (size_of mode) g in
     let m = size_of_more mode (done ++ (e ∷ [])) es in
-    ap (λ (r : ℕ). accepted_from mode On n (done ++ accepted_one (put e) r) (put_all es)) (none-due mode n done e a.0.free (omega arith) (omega arith))
-    ∙ all-accepted mode n (done ++ (e ∷ [])) es a.1 (omega arith) (omega arith)
+    ap (λ (r : ℕ). accepted_from mode On n (done ++ accepted_one (put e) r) (put_all es)) (none_due mode n done e a.0.free (omega arith) (omega arith))
+    ∙ all_accepted mode n (done ++ (e ∷ [])) es a.1 (omega arith) (omega arith)
     ∙ g
 
 pub words : (mode : Mode) (es : List Entry) → All Storable es → WordIds mode (put_all es)
@@ -101,23 +101,23 @@ words Oneway (e ∷ es) a = (a.0.id_word, words Oneway es a.1)
 
 module _ (img : List ℕ) (m : Made img) (buffer : List ℕ) (long : length img ≤ length buffer) where
   pub made_size : length img ≡ image_size m.mode m.puts
-  made_size = sym (ap length m.is) ∙ length-image m.mode m.puts
+  made_size = sym (ap length m.is) ∙ length_image m.mode m.puts
 
   pub made_room : head_size ≤ length buffer
   made_room = omega (arith, made_size)
 
-  pub accepted-all : accepted m.mode On (length buffer) (put_all m.puts) ≡ m.puts
+  pub accepted_all : accepted m.mode On (length buffer) (put_all m.puts) ≡ m.puts
   unfolding accepted
-  accepted-all =
+  accepted_all =
       let e = size_of_is m.mode m.puts in
       let f = m.fits in
-      all-accepted m.mode (length buffer) [] m.puts m.each (omega (arith, made_size)) (omega arith)
+      all_accepted m.mode (length buffer) [] m.puts m.each (omega (arith, made_size)) (omega arith)
 
-  pub made-accepted : accepted_puts m.mode On buffer (put_all m.puts) ≡ m.puts
-  made-accepted = list_accepted m.mode On buffer made_room (put_all m.puts) (words m.mode m.puts m.each) ∙ accepted-all
+  pub made_accepted : accepted_puts m.mode On buffer (put_all m.puts) ≡ m.puts
+  made_accepted = list_accepted m.mode On buffer made_room (put_all m.puts) (words m.mode m.puts m.each) ∙ accepted_all
 
   pub made_closes : image_of m.mode On buffer (put_all m.puts) ≡ img
   made_closes =
       of_accepted m.mode On buffer made_room (put_all m.puts) (words m.mode m.puts m.each)
-      ∙ ap (image m.mode) accepted-all
+      ∙ ap (image m.mode) accepted_all
       ∙ m.is

@@ -18,8 +18,8 @@ use Rattle.image.proofs.Equal.{same_true, same_self}
 use Rattle.image.proofs.AllOfList.{All, all_map, all_both}
 use Rattle.image.proofs.Parts.{head_at, entries_at}
 use Rattle.reader.specs.Open.{opening}
-use Rattle.lookup_laws.proofs.ImageOpening.{opening-image}
-use Rattle.lists.proofs.Parse.{AllWordSized, first_entry, after_first}
+use Rattle.lookup_laws.proofs.ImageOpening.{opening_image}
+use Rattle.lists.proofs.Parse.{AllWordSized, first_entry_lem, after_first_lem}
 use Rattle.image.specs.declared.Mode.{Mode}
 use Rattle.image.specs.declared.Mode.TheVariants.{Twoway, Oneway}
 use Rattle.image.specs.Zero.{has_zero}
@@ -33,8 +33,8 @@ parsed_front [] rest ok = refl
 parsed_front (e ∷ es) rest ok =
     let tail : List ℕ = cat entry_bytes es ++ rest in
     ap (λ (l : List ℕ). first_entry l ∷ entries_in (length es) (after_first l)) (append_assoc (entry_bytes e) (cat entry_bytes es) rest)
-    ∙ ap₂ {C = List Entry} (λ (x : Entry) (xs : List Entry). x ∷ xs) (first_entry e tail ok.0)
-    (ap (entries_in (length es)) (after_first e tail ok.0) ∙ parsed_front es rest ok.1)
+    ∙ ap₂ {C = List Entry} (λ (x : Entry) (xs : List Entry). x ∷ xs) (first_entry_lem e tail ok.0)
+    (ap (entries_in (length es)) (after_first_lem e tail ok.0) ∙ parsed_front es rest ok.1)
 
 -- the flag word
 pub flag_image : (mode : Mode) (es : List Entry) → word (image mode es) 8 ≡ flag_word mode
@@ -43,11 +43,11 @@ flag_image Twoway es = ap (λ (l : List ℕ). word l 8) (head_at Twoway es).stan
 flag_image Oneway es = ap (λ (l : List ℕ). word l 8) (head_at Oneway es).stands
 
 -- names that are read from bytes are bytes
-pub names-bytes : (n : ℕ) (l : List ℕ) → AllBytes l → All (λ (e : Entry). AllBytes e.name) (entries_in n l)
+pub names_bytes : (n : ℕ) (l : List ℕ) → AllBytes l → All (λ (e : Entry). AllBytes e.name) (entries_in n l)
 unfolding entries_in
-names-bytes zero l bytes = tt
-names-bytes (suc n) l bytes =
-    (bytes_take (word l 4 - 1) (drop 8 l) (bytes_drop 8 l bytes), names-bytes n (after_first l) (bytes_drop (8 + word l 4) l bytes))
+names_bytes zero l bytes = tt
+names_bytes (suc n) l bytes =
+    (bytes_take (word l 4 - 1) (drop 8 l) (bytes_drop 8 l bytes), names_bytes n (after_first l) (bytes_drop (8 + word l 4) l bytes))
 
 -- the ids are words
 abbrev pub WordIds : List Entry → Type 0
@@ -56,15 +56,15 @@ WordIds es = All (λ (e : Entry). e.id < 2 ^ 32) es
 pub all_wordly : (es : List Entry) → WordIds es → entries_size es < 2 ^ 32 → AllWordSized es
 unfolding entries_size
 all_wordly [] w s = tt
-all_wordly (e ∷ es) w s = (record { id_word = w.0; length-word = omega arith }, all_wordly es w.1 (omega arith))
+all_wordly (e ∷ es) w s = (record { id_word = w.0; length_word = omega arith }, all_wordly es w.1 (omega arith))
 
 module _ (mode : Mode) (es : List Entry) (ids : WordIds es) (fits : image_size mode es ≤ 4294967295) where
   -- the puts of an image are read back from it
-  pub puts-image : puts_in (image mode es) ≡ es
+  pub puts_image : puts_in (image mode es) ≡ es
   unfolding puts_in
-  puts-image =
+  puts_image =
       let a : At (image mode es) head_size (cat entry_bytes es) = entries_at mode es in
-      ap (λ (o : Outcome ℕ). entries_in (counted o) (drop head_size (image mode es))) (opening-image mode es fits)
+      ap (λ (o : Outcome ℕ). entries_in (counted o) (drop head_size (image mode es))) (opening_image mode es fits)
       ∙ ap (entries_in (length es)) a.stands
       ∙ parsed_front es a.post (all_wordly es ids (omega arith))
 
@@ -76,10 +76,10 @@ module _ (mode : Mode) (es : List Entry) (ids : WordIds es) (fits : image_size m
       flag_mode Oneway = refl
 
 -- in a two-way image the size bounds the ids
-pub word-ids : (es : List Entry) (n : ℕ) → back_size es ≤ n → n ≤ 2 ^ 32 → WordIds es
+pub word_ids : (es : List Entry) (n : ℕ) → back_size es ≤ n → n ≤ 2 ^ 32 → WordIds es
 unfolding back_size
-word-ids [] n b h = tt
-word-ids (e ∷ es) n b h = (omega arith, word-ids es n (omega arith) h)
+word_ids [] n b h = tt
+word_ids (e ∷ es) n b h = (omega arith, word_ids es n (omega arith) h)
 
 -- ---- the rule decides
 
@@ -100,16 +100,16 @@ names_free [] f = tt
 names_free (e ∷ es) f = (not-true _ (and_first (not (has_zero e.name)) _ f), names_free es (and_second (not (has_zero e.name)) _ f))
 
 -- puts and direction of an image that puts make are read back
-pub made-puts : (img : List ℕ) (m : Made img) → puts_in img ≡ m.puts
-made-puts img m = ap puts_in (sym m.is) ∙ puts-image m.mode m.puts (ids_of m.puts m.each) m.fits
+pub made_puts : (img : List ℕ) (m : Made img) → puts_in img ≡ m.puts
+made_puts img m = ap puts_in (sym m.is) ∙ puts_image m.mode m.puts (ids_of m.puts m.each) m.fits
 
 pub made_mode : (img : List ℕ) (m : Made img) → mode_in img ≡ m.mode
 made_mode img m = ap mode_in (sym m.is) ∙ flag_of_image m.mode m.puts (ids_of m.puts m.each) m.fits
 
-pub canonical-yes : (img : List ℕ) → Made img → canonical img ≡ true
+pub canonical_yes : (img : List ℕ) → Made img → canonical img ≡ true
 unfolding canonical
-canonical-yes img m =
-    let p = made-puts img m in
+canonical_yes img m =
+    let p = made_puts img m in
     let d = made_mode img m in
     let i : image (mode_in img) (puts_in img) ≡ img = ap₂ image d p ∙ m.is in
     let s : image_size (mode_in img) (puts_in img) ≡ image_size m.mode m.puts = ap₂ image_size d p in

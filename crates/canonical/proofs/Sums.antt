@@ -8,11 +8,11 @@ use mathlib.Core.List.{List, [], ◌∷◌}
 use borrow.Author.Tests.{le-leb, lt-leb}
 use Rattle.canonical.specs.Steps.HiddenBuckets.{sum_to, bit, used_to, Rising}
 
-pub bit-yes : (a x : ℕ) → a ≤ x → bit a x ≡ 1
-bit-yes a x h = rw (le-leb a x h)
+pub bit_yes : (a x : ℕ) → a ≤ x → bit a x ≡ 1
+bit_yes a x h = rw (le-leb a x h)
 
-pub bit-no : (a x : ℕ) → x < a → bit a x ≡ 0
-bit-no a x h = rw (lt-leb a x h)
+pub bit_no : (a x : ℕ) → x < a → bit a x ≡ 0
+bit_no a x h = rw (lt-leb a x h)
 
 pub one_at_most : (t : Bool) → cond t 1 0 ≤ 1
 one_at_most true = omega arith
@@ -21,8 +21,8 @@ one_at_most false = omega arith
 pub bit_mono : (a b x : ℕ) → a ≤ b → bit b x ≤ bit a x
 bit_mono a b x h =
     elim (dec_le b x) [
-      | yes k ↦ omega (arith, bit-yes a x (omega arith), bit-yes b x k)
-      | no k ↦ omega (arith, bit-no b x (omega arith))
+      | yes k ↦ omega (arith, bit_yes a x (omega arith), bit_yes b x k)
+      | no k ↦ omega (arith, bit_no b x (omega arith))
     ]
 
 -- what rises from b on rises from every smaller number on
@@ -31,10 +31,10 @@ rising_less a b [] h r = tt
 rising_less a b (x ∷ l) h r = (let k = r.0 in omega arith, r.1)
 
 module _ (f : ℕ → ℕ) where
-  pub sum-zero : (n : ℕ) → ((k : ℕ) → f k ≡ 0) → sum_to f n ≡ 0
+  pub sum_zero : (n : ℕ) → ((k : ℕ) → f k ≡ 0) → sum_to f n ≡ 0
   unfolding sum_to
-  sum-zero zero h = refl
-  sum-zero (suc n) h = omega (arith, h n, sum-zero n h)
+  sum_zero zero h = refl
+  sum_zero (suc n) h = omega (arith, h n, sum_zero n h)
 
   -- fewer than n numbers are above 0: one is 0
   pub used_room : (n : ℕ) → used_to f n < n → (k : ℕ) × (k < n) × (f k ≡ 0)
@@ -42,7 +42,7 @@ module _ (f : ℕ → ℕ) where
   used_room zero h = absurd (omega arith)
   used_room (suc n) h = elim (ℕ_discrete (f n) 0) [
     | yes z ↦ (n, omega arith, z)
-    | no z ↦ let (k, l, e) = used_room n (omega (arith, bit-yes 1 (f n) (omega arith))) in (k, omega arith, e)
+    | no z ↦ let (k, l, e) = used_room n (omega (arith, bit_yes 1 (f n) (omega arith))) in (k, omega arith, e)
   ]
 
 module _ (f g : ℕ → ℕ) where

@@ -149,8 +149,8 @@ module _ (img counts : List ℕ) where
 
 -- where the rows have the entries' numbers
 module _ (img : List ℕ) (ps : List Placed) (numbers : (t : ℕ) → t < 256 → bucket_number img t ≡ 2 * count t ps) where
-  pub row_count : (t : ℕ) → t < 256 → row_count img t ≡ count t ps
-  row_count t h = half (bucket_number img t) (count t ps) (numbers t h)
+  pub row_count_lem : (t : ℕ) → t < 256 → row_count img t ≡ count t ps
+  row_count_lem t h = half (bucket_number img t) (count t ps) (numbers t h)
     where
       half : (x y : ℕ) → x ≡ 2 * y → x / 2 ≡ y
       half x y e = omega arith
@@ -158,4 +158,4 @@ module _ (img : List ℕ) (ps : List Placed) (numbers : (t : ℕ) → t < 256 �
   pub rows_before : (t : ℕ) → t ≤ 256 → sum_to (row_count img) t ≡ entries_before t ps
   unfolding sum_to entries_before
   rows_before zero h = refl
-  rows_before (suc t) h = ap₂ ◌+◌ (rows_before t (omega arith)) (row_count t (omega arith))
+  rows_before (suc t) h = ap₂ ◌+◌ (rows_before t (omega arith)) (row_count_lem t (omega arith))

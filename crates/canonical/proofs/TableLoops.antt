@@ -11,7 +11,7 @@ use borrow.Author.Tests.{eq-eqb, ne_eqb}
 use Rattle.image.specs.Bytes.{all}
 use Rattle.image.specs.Head.{table_at, bucket_number}
 use Rattle.image.specs.Steps.Contracts.{offset_at}
-use Rattle.image.proofs.AllOfRange.{all-step, all_more, all_end}
+use Rattle.image.proofs.AllOfRange.{all_step, all_more, all_end}
 use Rattle.canonical.specs.Steps.HiddenBuckets.{sum_to, bit, used_to}
 use Rattle.canonical.specs.Steps.Checks.{clean, table_ok, row_count, table_place, row_ok, rows_ok}
 use Rattle.canonical.specs.Steps.Contracts.{CheckRowsPre}
@@ -40,10 +40,10 @@ used_end {f} u e = u.is ∙ ap (used_to f) e
 
 module _ (f : ℕ → Bool) where
   pub all_pass : {n : ℕ} (t : ℕ) {x : Bool} → t < n → f t ≡ true → all f t (n - t) ≡ x → all f (t + 1) (n - (t + 1)) ≡ x
-  all_pass {n} t h y e = sym (all-step f t n h ∙ ap (λ (b : Bool). b && all f (t + 1) (n - (t + 1))) y) ∙ e
+  all_pass {n} t h y e = sym (all_step f t n h ∙ ap (λ (b : Bool). b && all f (t + 1) (n - (t + 1))) y) ∙ e
 
   pub all_fail : {n : ℕ} (t : ℕ) {x : Bool} → t < n → f t ≡ false → all f t (n - t) ≡ x → false ≡ x
-  all_fail {n} t h y e = sym (all-step f t n h ∙ ap (λ (b : Bool). b && all f (t + 1) (n - (t + 1))) y) ∙ e
+  all_fail {n} t h y e = sym (all_step f t n h ∙ ap (λ (b : Bool). b && all f (t + 1) (n - (t + 1))) y) ∙ e
 
   pub all_passed : {n : ℕ} (t : ℕ) {x : Bool} → n ≤ t → all f t (n - t) ≡ x → true ≡ x
   unfolding all
@@ -130,11 +130,11 @@ module _ {img : List ℕ} {end o t : ℕ} (p : CheckRowsPre img end) (r : Rows i
         all_fail (row_ok img end) t more (row_is ∙ rw (number_yes, ne_eqb (table_at img t) (cond (eqb (row_count img t) 0) 0 o) d)) r.same
 
     module _ (there : Offset) (ok : Bool) (table : ok ≡ table_ok img o (row_count img t)) where
-      row-answer : row_ok img end t ≡ ok
-      row-answer = row_is ∙ rw (number_yes, eq-eqb (table_at img t) (cond (eqb (row_count img t) 0) 0 o) there) (sym table)
+      row_answer : row_ok img end t ≡ ok
+      row_answer = row_is ∙ rw (number_yes, eq-eqb (table_at img t) (cond (eqb (row_count img t) 0) 0 o) there) (sym table)
 
-      pub row-table : ok ≡ false → false ≡ rows_ok img end
-      row-table f = all_fail (row_ok img end) t more (row-answer ∙ f) r.same
+      pub row_table : ok ≡ false → false ≡ rows_ok img end
+      row_table f = all_fail (row_ok img end) t more (row_answer ∙ f) r.same
 
       pub row_next : ok ≡ true → Rows img end (o + 16 * row_count img t) (t + 1)
       unfolding sum_to
@@ -144,5 +144,5 @@ module _ {img : List ℕ} {end o t : ℕ} (p : CheckRowsPre img end) (r : Rows i
             few = omega arith;
             place = rw next (omega (arith, r.place));
             inside = row_room even there;
-            same = all_pass (row_ok img end) t more (row-answer ∙ y) r.same;
+            same = all_pass (row_ok img end) t more (row_answer ∙ y) r.same;
           }

@@ -13,7 +13,7 @@ use Rattle.image.specs.declared.Mode.TheVariants.{Twoway, Oneway}
 use Rattle.image.proofs.EntryArea.{AllBytes, bytes_drop, bytes_take}
 use Rattle.image.proofs.Equal.{same_self}
 use Rattle.image.proofs.AllOfList.{All, all_map, all_both}
-use Rattle.image.proofs.Lists.{filter-append, filter-yes}
+use Rattle.image.proofs.Lists.{filter-append, filter_yes}
 use Rattle.reader.specs.Lookup.{lookup}
 use Rattle.reader.specs.Open.{opening}
 use Rattle.consistency.specs.Panel.{readings_agree}
@@ -28,9 +28,9 @@ use Rattle.lists.proofs.Readings.{readings}
 use Rattle.canonical.specs.Steps.Made.{Storable, Made}
 use Rattle.canonical.specs.Canonical.{Canonical, counted, puts_in, mode_in, canonical}
 use Rattle.canonical.specs.Theorems.CanonicalImages.{CanonicalImage, CanonicalHolds}
-use Rattle.canonical.proofs.ReadBack.{names-bytes, made-puts, made_mode, canonical-yes, canonical_only}
+use Rattle.canonical.proofs.ReadBack.{names_bytes, made_puts, made_mode, canonical_yes, canonical_only}
 use Rattle.canonical.proofs.ChecksHold.{canonical_checked}
-use Rattle.canonical.proofs.ListImages.{words, list_made, list_puts, list_mode, lists_injective, accepted-all, made-accepted, made_closes, made_size}
+use Rattle.canonical.proofs.ListImages.{words, list_made, list_puts, list_mode, lists_injective, accepted_all, made_accepted, made_closes, made_size}
 use Rattle.canonical.proofs.ListImages.{made_room}
 
 -- ---- each entry's name is found
@@ -48,7 +48,7 @@ names_first done (e ∷ es) = (own, rw (append_assoc done (e ∷ []) es) at (nam
     own =
         let test = has_name e.name in
         let s = first_some (of_name e.name done) (of_name e.name es) e in
-        let kept = ap (λ (l : List Entry). of_name e.name done ++ l) (filter-yes test e es (same_self e.name)) in
+        let kept = ap (λ (l : List Entry). of_name e.name done ++ l) (filter_yes test e es (same_self e.name)) in
         (s.0, ap first_id (filter-append test done (e ∷ es) ∙ kept) ∙ s.1)
 
 -- ---- a canonical image, and longer bytes
@@ -83,7 +83,7 @@ module _ (img : List ℕ) (m : Made img) where
 
   read : Read m.mode m.puts img
   read =
-      let all = accepted-all img m img room in
+      let all = accepted_all img m img room in
       let closed = made_closes img m img room in
       rw (all, closed) at (list_read m.mode On img (made_room img m img room) (put_all m.puts) (words m.mode m.puts m.each))
 
@@ -91,7 +91,7 @@ module _ (img : List ℕ) (m : Made img) where
   made_agrees = sym (ap readings_agree (made_closes img m img room)) ∙ agrees_in m.mode (words m.mode m.puts m.each)
     where
       agrees_in : (mode : Mode) → WordIds mode (put_all m.puts) → readings_agree (image_of mode On img (put_all m.puts)) ≡ true
-      agrees_in Twoway w = readings.two-way On img (put_all m.puts) (made_room img m img room)
+      agrees_in Twoway w = readings.two_way_lem On img (put_all m.puts) (made_room img m img room)
       agrees_in Oneway w = readings.one_way On img (put_all m.puts) (made_room img m img room) w
 
   made_homes : (id : ℕ) (name : List ℕ) → name_given img id ≡ some name → home img id ≡ true
@@ -105,20 +105,20 @@ module _ (img : List ℕ) (bytes : AllBytes img) (yes : canonical img ≡ true) 
   made = canonical_only img bytes yes
 
   puts_are : made.puts ≡ puts_in img
-  puts_are = sym (made-puts img made)
+  puts_are = sym (made_puts img made)
 
   mode_is : made.mode ≡ mode_in img
   mode_is = sym (made_mode img made)
 
-  is-canonical : CanonicalImage img
-  is-canonical =
+  is_canonical : CanonicalImage img
+  is_canonical =
       record {
         opens = rw puts_are at (canonical_checked img made).opened;
         agrees = made_agrees img made;
         homes = made_homes img made;
         found = rw puts_are at (made_found img made);
         made = λ buffer long. (
-          let a = made-accepted img made buffer long in rw (puts_are, mode_is) at a,
+          let a = made_accepted img made buffer long in rw (puts_are, mode_is) at a,
           let b = made_closes img made buffer long in rw (puts_are, mode_is) at b,
         );
         alone = λ more b d. alone more b d (canonical (img ++ more)) refl;
@@ -140,19 +140,19 @@ module _ (img : List ℕ) (bytes : AllBytes img) (yes : canonical img ≡ true) 
 
 -- ---- the rule, and lists
 
-canonical-made : (img : List ℕ) → Canonical img → Made img
-canonical-made img o =
+canonical_made : (img : List ℕ) → Canonical img → Made img
+canonical_made img o =
     let each : All Storable o.puts = all_map (λ e p. record { free = p.free; id_word = p.id_word }) o.puts o.each in
     rw o.closes at (list_made o.mode On o.buffer o.room (put_all o.puts) (words o.mode o.puts each))
 
 -- the names of an image of bytes are bytes
 named_in_bytes : (img : List ℕ) → AllBytes img → All (λ (e : Entry). AllBytes e.name) (puts_in img)
 unfolding puts_in
-named_in_bytes img bytes = names-bytes (counted (opening img)) (drop head_size img) (bytes_drop head_size img bytes)
+named_in_bytes img bytes = names_bytes (counted (opening img)) (drop head_size img) (bytes_drop head_size img bytes)
 
-made-canonical : (img : List ℕ) → AllBytes img → Made img → Canonical img
-made-canonical img bytes m =
-    let names : All (λ (e : Entry). AllBytes e.name) m.puts = rw (made-puts img m) at (named_in_bytes img bytes) in
+made_canonical : (img : List ℕ) → AllBytes img → Made img → Canonical img
+made_canonical img bytes m =
+    let names : All (λ (e : Entry). AllBytes e.name) m.puts = rw (made_puts img m) at (named_in_bytes img bytes) in
     record {
       mode = m.mode;
       buffer = img;
@@ -167,11 +167,11 @@ made-canonical img bytes m =
 pub canonical_holds : CanonicalHolds
 canonical_holds =
     record {
-      exactly = λ img bytes. (λ yes. made-canonical img bytes (canonical_only img bytes yes), λ o. canonical-yes img (canonical-made img o));
-      holds = is-canonical;
+      exactly = λ img bytes. (λ yes. made_canonical img bytes (canonical_only img bytes yes), λ o. canonical_yes img (canonical_made img o));
+      holds = is_canonical;
       of_list =
           λ mode repeats buffer cs room word. record {
-            is-canonical = canonical-yes (image_of mode repeats buffer cs) (list_made mode repeats buffer room cs word);
+            is_canonical = canonical_yes (image_of mode repeats buffer cs) (list_made mode repeats buffer room cs word);
             read_back = list_puts mode repeats buffer room cs word;
             mode_back = list_mode mode repeats buffer room cs word;
           };

@@ -12,9 +12,9 @@ use Rattle.writer.specs.State.{State, state_with, fresh, beginning, counts_begun
 use Rattle.writer.specs.Close.{closed_size, closing, after_close}
 use Rattle.writer.specs.declared.CQDBWriter.{CQDBWriter}
 use Rattle.lists.specs.Calls.{after}
-use Rattle.image.proofs.Sizes.{length-image}
+use Rattle.image.proofs.Sizes.{length_image}
 use Rattle.lists.proofs.Appended.{size_of_is}
-use Rattle.lists.proofs.CallLists.{two-way, list_begins, list_counts, list_written}
+use Rattle.lists.proofs.CallLists.{two_way_lem, list_begins, list_counts, list_written}
 use Rattle.lists.proofs.OneMoreClose.{list_gives, list_formula, list_image}
 use Rattle.catalogue.specs.Lines.{input_calls, after_input}
 use Rattle.catalogue.specs.Left.{puts_of, Left, Built}
@@ -48,7 +48,7 @@ module _ (buffer : List ℕ) (room : head_size ≤ length buffer) (input : List 
   so = e
 
   closes : closing s ≡ value (closed_size s)
-  closes = rw so (list_gives Twoway Off buffer room (input_calls input) (two-way (input_calls input)))
+  closes = rw so (list_gives Twoway Off buffer room (input_calls input) (two_way_lem (input_calls input)))
 
   close_accepted : {Q : Type 0} (n : ℕ) → refusal n ≡ closing s → Q
   close_accepted n f = let z : ◌≡◌ {A = ℕ} 0 1 = cc (f ∙ closes) in absurd (omega arith)
@@ -60,13 +60,13 @@ module _ (buffer : List ℕ) (room : head_size ≤ length buffer) (input : List 
       let es : n ≡ closed_size s = inside (f ∙ closes) in
       record {
         input = input;
-        counted = ap (λ (x : State). x.writer.entries) so ∙ (list_written Twoway Off buffer room cs (two-way cs)).entries;
-        sized = es ∙ ap closed_size so ∙ list_formula Twoway Off buffer room cs (two-way cs);
+        counted = ap (λ (x : State). x.writer.entries) so ∙ (list_written Twoway Off buffer room cs (two_way_lem cs)).entries;
+        sized = es ∙ ap closed_size so ∙ list_formula Twoway Off buffer room cs (two_way_lem cs);
         imaged =
             ap (λ (k : ℕ). take k t.buffer) es
             ∙ ap (λ (x : State). take (closed_size s) x.buffer) g
             ∙ ap (λ (x : State). take (closed_size x) (after_close x).buffer) so
-            ∙ list_image Twoway Off buffer room cs (two-way cs);
+            ∙ list_image Twoway Off buffer room cs (two_way_lem cs);
       }
     where
       inside : {k : ℕ} → value n ≡ value k → n ≡ k
@@ -100,7 +100,7 @@ built_inside n entries k buffer b =
     let es = puts_of n b.input in
     let took = length-take k buffer in
     let same = ap length b.imaged in
-    let long = length-image Twoway es in
+    let long = length_image Twoway es in
     let formula = size_of_is Twoway es in
     let sized = b.sized in
     omega arith

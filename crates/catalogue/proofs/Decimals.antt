@@ -39,10 +39,10 @@ module _ (line : List ℕ) (n : ℕ) (so : n + leading_digits (drop n line) ≡ 
 
 -- ---- the number
 
-pub digit-read : (digits : List ℕ) (v i d : ℕ) → i < length digits → d ≡ get_or digits i 0 - 48
+pub digit_read_lem : (digits : List ℕ) (v i d : ℕ) → i < length digits → d ≡ get_or digits i 0 - 48
     → number_from v (drop i digits) ≡ number_from (v * 10 + d) (drop (i + 1) digits)
 unfolding number_from
-digit-read digits v i d h e =
+digit_read_lem digits v i d h e =
     ap (number_from v) (drop-cons digits i 0 h)
     ∙ ap (λ (k : ℕ). number_from (v * 10 + (get_or digits i 0 - 48)) (drop k digits)) (sym (add-one i))
     ∙ ap (λ (x : ℕ). number_from (v * 10 + x) (drop (i + 1) digits)) (sym e)

@@ -7,7 +7,7 @@ use lib.Dec.{eqb}
 use borrow.Author.Tests.{eqb-true}
 use Rattle.writer.specs.State.{State}
 use Rattle.lists.specs.Calls.{after}
-use Rattle.lists.proofs.CallLists.{after-append}
+use Rattle.lists.proofs.CallLists.{after_append}
 use Rattle.catalogue.specs.Lines.{with_byte, lines_of, leading_digits, parse_line, line_calls, lines_calls, input_calls, after_put_line, after_input}
 
 -- bytes without a line feed
@@ -28,25 +28,25 @@ lines_feed (b ∷ bs) rest h =
     ap (λ (t : Bool). cond t ([] ∷ lines_of (bs ++ 10 ∷ rest)) (with_byte b (lines_of (bs ++ 10 ∷ rest)))) h.0
     ∙ ap (with_byte b) (lines_feed bs rest h.1)
 
-lines-last : (b : ℕ) (bs : List ℕ) → NoFeed (b ∷ bs) → lines_of (b ∷ bs) ≡ (b ∷ bs) ∷ []
+lines_last : (b : ℕ) (bs : List ℕ) → NoFeed (b ∷ bs) → lines_of (b ∷ bs) ≡ (b ∷ bs) ∷ []
 unfolding lines_of with_byte
-lines-last b [] h = ap (λ (t : Bool). cond t ([] ∷ []) ((b ∷ []) ∷ [])) h.0
-lines-last b (x ∷ xs) h =
+lines_last b [] h = ap (λ (t : Bool). cond t ([] ∷ []) ((b ∷ []) ∷ [])) h.0
+lines_last b (x ∷ xs) h =
     ap (λ (t : Bool). cond t ([] ∷ lines_of (x ∷ xs)) (with_byte b (lines_of (x ∷ xs)))) h.0
-    ∙ ap (with_byte b) (lines-last x xs h.1)
+    ∙ ap (with_byte b) (lines_last x xs h.1)
 
 -- what an input leaves whose first line ends here
 pub input_feed : (s : State) (p rest : List ℕ) → NoFeed p → after_input s (p ++ 10 ∷ rest) ≡ after_input (after_put_line s p) rest
 unfolding after_input input_calls lines_calls after_put_line
 input_feed s p rest h =
-    ap (λ (ls : List (List ℕ)). after s (lines_calls ls)) (lines_feed p rest h) ∙ after-append s (line_calls p) (lines_calls (lines_of rest))
+    ap (λ (ls : List (List ℕ)). after s (lines_calls ls)) (lines_feed p rest h) ∙ after_append s (line_calls p) (lines_calls (lines_of rest))
 
 -- and one that has no line feed: an empty one has no line, which leaves what an empty line leaves
 pub input_last : (s : State) (p : List ℕ) → NoFeed p → after_input s p ≡ after_put_line s p
 unfolding after_input input_calls lines_calls lines_of after_put_line line_calls parse_line leading_digits
 input_last s [] h = refl
 input_last s (b ∷ bs) h =
-    ap (λ (ls : List (List ℕ)). after s (lines_calls ls)) (lines-last b bs h) ∙ ap (after s) (append-nil (line_calls (b ∷ bs)))
+    ap (λ (ls : List (List ℕ)). after s (lines_calls ls)) (lines_last b bs h) ∙ ap (after s) (append-nil (line_calls (b ∷ bs)))
 
 -- ---- an input that is cut at a line's end, p being what the line at hand has before the first of xs
 

@@ -57,31 +57,31 @@ walk n input m h =
 puts : List Entry
 puts = entry_of (65 ∷ []) 0 ∷ entry_of (66 ∷ []) 3 ∷ entry_of (67 ∷ []) 0 ∷ []
 
-example-puts : puts_of 65536 example ≡ puts
+example_puts : puts_of 65536 example ≡ puts
 unfolding puts puts_of input_calls lines_of with_byte lines_calls line_calls parse_line leading_digits number_from accepted accepted_from put_due has_zero
     contains_name same size_of puts_size back_size
-example-puts = refl
+example_puts = refl
 
-repeated-puts : puts_of 65536 repeated_lines ≡ entry_of (65 ∷ []) 0 ∷ entry_of (66 ∷ []) 2 ∷ []
+repeated_puts : puts_of 65536 repeated_lines ≡ entry_of (65 ∷ []) 0 ∷ entry_of (66 ∷ []) 2 ∷ []
 unfolding puts_of input_calls lines_of with_byte lines_calls line_calls parse_line leading_digits number_from accepted accepted_from put_due has_zero
     contains_name same size_of puts_size back_size
-repeated-puts = refl
+repeated_puts = refl
 
 example_size : size_of Twoway puts ≡ 2166
 unfolding puts size_of puts_size back_size
 example_size = refl
 
-example-walk : (m : ℕ) → items_of puts 0 (suc (suc m)) ≡ entry_of (67 ∷ []) 0 ∷ []
+example_walk : (m : ℕ) → items_of puts 0 (suc (suc m)) ≡ entry_of (67 ∷ []) 0 ∷ []
 unfolding puts items_of of_id filter
-example-walk m = refl
+example_walk m = refl
 
 pub demonstration : Demonstration
 unfolding puts
 demonstration =
     record {
       walk = walk;
-      repeated-puts = repeated-puts;
-      example_entries = ap length example-puts;
-      example_size = ap (size_of Twoway) example-puts ∙ example_size;
-      example-walk = λ m. walk 65536 example (suc (suc m)) (lit≤ tt) ∙ ap (λ (es : List Entry). items_of es 0 (suc (suc m))) example-puts ∙ example-walk m;
+      repeated_puts = repeated_puts;
+      example_entries = ap length example_puts;
+      example_size = ap (size_of Twoway) example_puts ∙ example_size;
+      example_walk = λ m. walk 65536 example (suc (suc m)) (lit≤ tt) ∙ ap (λ (es : List Entry). items_of es 0 (suc (suc m))) example_puts ∙ example_walk m;
     }

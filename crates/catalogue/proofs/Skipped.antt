@@ -73,8 +73,8 @@ put_length s e = length_either_way (eqb (put_refusal s e) 0)
     length_either_way true = refl
     length_either_way false = refl
 
-pub line-length : (s : State) (line : List ℕ) → (after_put_line s line).writer.length ≡ s.writer.length
-line-length s line = ap (λ (x : State). x.writer.length) (after_form s line) ∙ length_by_form (parse_line line)
+pub line_length : (s : State) (line : List ℕ) → (after_put_line s line).writer.length ≡ s.writer.length
+line_length s line = ap (λ (x : State). x.writer.length) (after_form s line) ∙ length_by_form (parse_line line)
   where
     length_by_form : (f : Form) → (leaves s line f).writer.length ≡ s.writer.length
     length_by_form (entry id at) = put_length s (entry_of (drop at line) id)

@@ -12,7 +12,7 @@ use borrow.Author.Tests.{ltb-true, ltb-false, eqb-true}
 use Rattle.writer.specs.State.{State}
 use Rattle.catalogue.specs.Lines.{after_put_line, after_input}
 use Rattle.catalogue.specs.Steps.Pieces.{Gathering, started, gathered, line_ended, take_byte, take_piece, take_pieces, whole_input, input_ended, AnyPieces}
-use Rattle.catalogue.proofs.Skipped.{long_line, line-length}
+use Rattle.catalogue.proofs.Skipped.{long_line, line_length}
 use Rattle.catalogue.proofs.InputLines.{NoFeed, no_feed_more, input_feed, input_last, input_cut}
 
 -- the line at hand has the bytes p so far
@@ -42,7 +42,7 @@ holds_ended g p h =
       short = λ k. (refl, refl);
       long = λ k. k;
       enough =
-          let e = ap (λ (s : State). s.writer.length) (ended g p h) ∙ line-length g.state p in
+          let e = ap (λ (s : State). s.writer.length) (ended g p h) ∙ line_length g.state p in
           let c = h.enough in
           omega arith;
     }

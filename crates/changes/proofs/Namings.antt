@@ -44,12 +44,12 @@ neither_named old new id e f = differs_by old new id unnamed unnamed e f
 
 -- ---- what the test tells
 
-same-names_self : (a : Option (List ℕ)) → equal_namings a a ≡ true
-same-names_self none = refl
-same-names_self (some a) = same_self a
+same_names_self : (a : Option (List ℕ)) → equal_namings a a ≡ true
+same_names_self none = refl
+same_names_self (some a) = same_self a
 
 equal_same : (a b : Option (List ℕ)) → a ≡ b → equal_namings a b ≡ true
-equal_same a b e = ap (equal_namings a) (sym e) ∙ same-names_self a
+equal_same a b e = ap (equal_namings a) (sym e) ∙ same_names_self a
 
 same_equal : (a b : Option (List ℕ)) → equal_namings a b ≡ true → a ≡ b
 same_equal none none e = refl
@@ -70,8 +70,8 @@ differs_exactly old new id = ((λ e q. false_not_true (sym ((alike_exactly old n
     answer_true h false e = absurd (h ((alike_exactly old new id).0 e))
 
 -- the order of the images does not matter
-same-names_sym : (a b : Option (List ℕ)) → equal_namings a b ≡ equal_namings b a
-same-names_sym a b = same_answer (equal_namings a b) (equal_namings b a) refl refl
+same_names_sym : (a b : Option (List ℕ)) → equal_namings a b ≡ equal_namings b a
+same_names_sym a b = same_answer (equal_namings a b) (equal_namings b a) refl refl
   where
     same_answer : (s t : Bool) → equal_namings a b ≡ s → equal_namings b a ≡ t → s ≡ t
     same_answer true true p q = refl
@@ -81,7 +81,7 @@ same-names_sym a b = same_answer (equal_namings a b) (equal_namings b a) refl re
 
 pub differs_sym : (old new : List ℕ) (id : ℕ) → differs new old id ≡ differs old new id
 unfolding differs
-differs_sym old new id = ap not (same-names_sym (name_given new id) (name_given old id))
+differs_sym old new id = ap not (same_names_sym (name_given new id) (name_given old id))
 
 -- ---- the upper bound
 

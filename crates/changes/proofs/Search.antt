@@ -8,7 +8,7 @@ use mathlib.Core.Bool.{Bool, true, false}
 use mathlib.Core.List.{List, [], ◌∷◌}
 use mathlib.Core.Option.{Option, none, some}
 use Rattle.image.specs.Bytes.{filter, range}
-use Rattle.image.proofs.Lists.{filter-yes, filter-no}
+use Rattle.image.proofs.Lists.{filter_yes, filter_no}
 use Rattle.reader.specs.Naming.{Naming, naming}
 use Rattle.changes.specs.Changes.{upper, differs, first_among, first_change, changed, unchanged, change_at, next_change}
 use Rattle.changes.specs.Theorems.Theorem.{calls}
@@ -19,9 +19,9 @@ none_some x e = let z : ◌≡◌ {A = ℕ} 0 1 = cc in absurd (omega arith)
 module _ (old new : List ℕ) where
   -- ---- the steps of the search
 
-  among-differs : (from m : ℕ) → differs old new from ≡ true → first_among old new from (suc m) ≡ some from
+  among_differs : (from m : ℕ) → differs old new from ≡ true → first_among old new from (suc m) ≡ some from
   unfolding first_among
-  among-differs from m h = ap (λ (t : Bool). elim t [ true ↦ some from | false ↦ first_among old new (from + 1) m ]) h
+  among_differs from m h = ap (λ (t : Bool). elim t [ true ↦ some from | false ↦ first_among old new (from + 1) m ]) h
 
   among_alike : (from m : ℕ) → differs old new from ≡ false → first_among old new from (suc m) ≡ first_among old new (from + 1) m
   unfolding first_among
@@ -31,7 +31,7 @@ module _ (old new : List ℕ) where
   pub ends_here : (id u : ℕ) → id < u → differs old new id ≡ true → first_among old new id (u - id) ≡ some id
   ends_here id u p h =
       let e : u - id ≡ suc (u - (id + 1)) = omega arith in
-      ap (first_among old new id) e ∙ among-differs id (u - (id + 1)) h
+      ap (first_among old new id) e ∙ among_differs id (u - (id + 1)) h
 
   pub goes_on : (id u : ℕ) → id < u → differs old new id ≡ false → first_among old new (id + 1) (u - (id + 1)) ≡ first_among old new id (u - id)
   goes_on id u p h =
@@ -54,8 +54,8 @@ module _ (old new : List ℕ) where
       → changed id a b ≡ next_change old new from
   answers_change from id a b e f h = (λ i. changed id (e i) (f i)) ∙ ap (change_at old new) h
 
-  pub answers-none : (from : ℕ) → none ≡ first_change old new from → unchanged ≡ next_change old new from
-  answers-none from h = ap (change_at old new) h
+  pub answers_none : (from : ℕ) → none ≡ first_change old new from → unchanged ≡ next_change old new from
+  answers_none from h = ap (change_at old new) h
 
   -- ---- what it finds
 
@@ -92,7 +92,7 @@ module _ (old new : List ℕ) where
   first_found zero from k w = absurd (omega (arith, w.from_there, w.below))
   first_found (suc m) from k w =
       elim (ℕ_discrete from k) [
-        | yes f ↦ among-differs from m (ap (differs old new) f ∙ w.unlike) ∙ ap some f
+        | yes f ↦ among_differs from m (ap (differs old new) f ∙ w.unlike) ∙ ap some f
         | no n ↦
             among_alike from m (w.alike_before from (omega arith) (omega (arith, w.from_there)))
             ∙ first_found m (from + 1) k (record {
@@ -103,10 +103,10 @@ module _ (old new : List ℕ) where
             })
       ]
 
-  pub none-all : (m from : ℕ) → first_among old new from m ≡ none → (i : ℕ) → from ≤ i → i < from + m → differs old new i ≡ false
+  pub none_all : (m from : ℕ) → first_among old new from m ≡ none → (i : ℕ) → from ≤ i → i < from + m → differs old new i ≡ false
   unfolding first_among
-  none-all zero from e i p q = absurd (omega arith)
-  none-all (suc m) from e i p q = alike_here (none-all m (from + 1)) (differs old new from) refl e
+  none_all zero from e i p q = absurd (omega arith)
+  none_all (suc m) from e i p q = alike_here (none_all m (from + 1)) (differs old new from) refl e
     where
       alike_here : (first_among old new (from + 1) m ≡ none → (j : ℕ) → from + 1 ≤ j → j < from + 1 + m → differs old new j ≡ false)
           → (t : Bool) → differs old new from ≡ t
@@ -125,20 +125,20 @@ module _ (old new : List ℕ) where
   abbrev kept : ℕ → ℕ → List ℕ
   kept from m = filter (differs old new) (range from m)
 
-  kept-yes : (from m : ℕ) → differs old new from ≡ true → kept from (suc m) ≡ from ∷ kept (from + 1) m
+  kept_yes : (from m : ℕ) → differs old new from ≡ true → kept from (suc m) ≡ from ∷ kept (from + 1) m
   unfolding range
-  kept-yes from m d =
-      filter-yes (differs old new) from (range (suc from) m) d ∙ ap (λ (k : ℕ). from ∷ kept k m) (sym (add-one from))
+  kept_yes from m d =
+      filter_yes (differs old new) from (range (suc from) m) d ∙ ap (λ (k : ℕ). from ∷ kept k m) (sym (add-one from))
 
-  kept-no : (from m : ℕ) → differs old new from ≡ false → kept from (suc m) ≡ kept (from + 1) m
+  kept_no : (from m : ℕ) → differs old new from ≡ false → kept from (suc m) ≡ kept (from + 1) m
   unfolding range
-  kept-no from m d = filter-no (differs old new) from (range (suc from) m) d ∙ ap (λ (k : ℕ). kept k m) (sym (add-one from))
+  kept_no from m d = filter_no (differs old new) from (range (suc from) m) d ∙ ap (λ (k : ℕ). kept k m) (sym (add-one from))
 
-  kept-none : (m from : ℕ) → ((i : ℕ) → from ≤ i → i < from + m → differs old new i ≡ false) → kept from m ≡ []
+  kept_none : (m from : ℕ) → ((i : ℕ) → from ≤ i → i < from + m → differs old new i ≡ false) → kept from m ≡ []
   unfolding range filter
-  kept-none zero from h = refl
-  kept-none (suc m) from h =
-      kept-no from m (h from (omega arith) (omega arith)) ∙ kept-none m (from + 1) (λ i p q. h i (omega arith) (omega arith))
+  kept_none zero from h = refl
+  kept_none (suc m) from h =
+      kept_no from m (h from (omega arith) (omega arith)) ∙ kept_none m (from + 1) (λ i p q. h i (omega arith) (omega arith))
 
   kept_some : (m from k : ℕ) → FirstBelow from k (from + m) → kept from m ≡ k ∷ kept (k + 1) (from + m - (k + 1))
   kept_some zero from k w = absurd (omega (arith, w.from_there, w.below))
@@ -146,12 +146,12 @@ module _ (old new : List ℕ) where
       elim (ℕ_discrete from k) [
         | yes f ↦
             let n : m ≡ from + suc m - (from + 1) = omega arith in
-            kept-yes from m (ap (differs old new) f ∙ w.unlike)
+            kept_yes from m (ap (differs old new) f ∙ w.unlike)
             ∙ ap (λ (l : ℕ). from ∷ kept (from + 1) l) n
             ∙ ap (λ (j : ℕ). j ∷ kept (j + 1) (from + suc m - (j + 1))) f
         | no n ↦
             let e : from + 1 + m - (k + 1) ≡ from + suc m - (k + 1) = omega arith in
-            kept-no from m (w.alike_before from (omega arith) (omega (arith, w.from_there)))
+            kept_no from m (w.alike_before from (omega arith) (omega (arith, w.from_there)))
             ∙ kept_some m (from + 1) k (record {
               from_there = omega (arith, w.from_there);
               below = omega (arith, w.below);
@@ -176,7 +176,7 @@ module _ (old new : List ℕ) where
 
       lists_from : ((f : ℕ) → u - f ≤ m → calls old new f m ≡ kept f (u - f)) → (x : Option ℕ) → first_change old new from ≡ x
           → elim x [ some id ↦ id ∷ calls old new (id + 1) m | none ↦ [] ] ≡ kept from (u - from)
-      lists_from ih none e = sym (kept-none (u - from) from (none-all (u - from) from (found none e)))
+      lists_from ih none e = sym (kept_none (u - from) from (none_all (u - from) from (found none e)))
       lists_from ih (some k) e =
           let w = found_first (u - from) from k (found (some k) e) in
           let below : k < u = omega (arith, w.from_there, w.below) in

@@ -43,7 +43,7 @@ module _ (old new : List ℕ) where
   none_forth : (from : ℕ) → first_change old new from ≡ none → (id : ℕ) → from ≤ id → name_given old id ≡ name_given new id
   none_forth from e id p =
       elim (dec_lt id u) [
-        | yes q ↦ (alike_exactly old new id).0 (search.none-all old new (u - from) from (as_search from ∙ e) id p (omega arith))
+        | yes q ↦ (alike_exactly old new id).0 (search.none_all old new (u - from) from (as_search from ∙ e) id p (omega arith))
         | no q ↦ let n = none_above old new id (omega arith) in n.0 ∙ sym n.1
       ]
 

@@ -10,8 +10,8 @@ use Rattle.image.specs.Bytes.{same, all}
 use Rattle.image.specs.Head.{back_size_at}
 use Rattle.image.specs.Zero.{has_zero, before_zero}
 use Rattle.image.proofs.Bools.{chose_first, chose_second}
-use Rattle.image.proofs.AllOfRange.{all_true, all-step}
-use Rattle.image.proofs.Zeros.{before_front, before_short, before_free, before_longest, before-all, before_less, readings_same}
+use Rattle.image.proofs.AllOfRange.{all_true, all_step}
+use Rattle.image.proofs.Zeros.{before_front, before_short, before_free, before_longest, before_all, before_less, readings_same}
 use Rattle.reader.specs.Naming.{Naming, place, unnamed, no_back, naming}
 use Rattle.consistency.specs.Panel.{cut_at_zero, panel, reading, agree_on, readings_agree}
 use Rattle.consistency.specs.Theorems.PanelReads.{LongestFront, PanelReads}
@@ -42,19 +42,19 @@ module _ (image : List ℕ) (id : ℕ) where
     name_long inside = omega (arith, length-take n (drop s image), length-drop s image)
 
     module _ (inside : s + n ≤ length image) (r : ℕ) (er : r ≡ length (before_zero (take n (drop s image)))) where
-      pub agree_step-same : r ≡ n → id + 1 ≡ cond (agree_on image id) (id + 1) 0
-      agree_step-same h = same_without_zero (has_zero (take n (drop s image))) refl
+      pub agree_step_same : r ≡ n → id + 1 ≡ cond (agree_on image id) (id + 1) 0
+      agree_step_same h = same_without_zero (has_zero (take n (drop s image))) refl
         where
           same_without_zero : (z : Bool) → has_zero (take n (drop s image)) ≡ z → id + 1 ≡ cond (agree_on image id) (id + 1) 0
           same_without_zero true q = let less = before_less (take n (drop s image)) q in let long = name_long inside in absurd (omega arith)
           same_without_zero false q = ap (λ (t : Bool). cond t (id + 1) 0) (agree_named false (sym q))
 
-      pub agree_step-differs : (r ≡ n → ⊥) → 0 ≡ cond (agree_on image id) (id + 1) 0
-      agree_step-differs h = differs_with_zero (has_zero (take n (drop s image))) refl
+      pub agree_step_differs : (r ≡ n → ⊥) → 0 ≡ cond (agree_on image id) (id + 1) 0
+      agree_step_differs h = differs_with_zero (has_zero (take n (drop s image))) refl
         where
           differs_with_zero : (z : Bool) → has_zero (take n (drop s image)) ≡ z → 0 ≡ cond (agree_on image id) (id + 1) 0
           differs_with_zero true q = ap (λ (t : Bool). cond t (id + 1) 0) (agree_named true (sym q))
-          differs_with_zero false q = absurd (h (er ∙ before-all (take n (drop s image)) q ∙ name_long inside))
+          differs_with_zero false q = absurd (h (er ∙ before_all (take n (drop s image)) q ∙ name_long inside))
 
   -- one that has none
   pub panel_unnamed : unnamed ≡ naming image id → unnamed ≡ panel image id
@@ -70,9 +70,9 @@ module _ (image : List ℕ) (id : ℕ) where
 longest_front : (name : List ℕ) → LongestFront name (before_zero name)
 longest_front name = record { is_front = before_front name; zero_free = before_free name; longest = before_longest name }
 
-pub panel-reads : PanelReads
+pub panel_reads : PanelReads
 unfolding panel before_zero
-panel-reads = record { shown = shown }
+panel_reads = record { shown = shown }
   where
     cut : (image : List ℕ) (x : Naming) → LongestFront (reading image x) (reading image (cut_at_zero image x))
     cut image (place s n) =
@@ -111,20 +111,20 @@ agree_without image h = all_true (agree_on image) 0 (back_size_at image) (λ i p
 
 module _ (image : List ℕ) (n id : ℕ) (less : id < n) where
   pub disagree : agree_on image id ≡ false → all (agree_on image) id (n - id) ≡ false
-  disagree h = all-step (agree_on image) id n less ∙ ap (λ (b : Bool). b && all (agree_on image) (id + 1) (n - (id + 1))) h
+  disagree h = all_step (agree_on image) id n less ∙ ap (λ (b : Bool). b && all (agree_on image) (id + 1) (n - (id + 1))) h
 
   pub agree_further : agree_on image id ≡ true → all (agree_on image) (id + 1) (n - (id + 1)) ≡ all (agree_on image) id (n - id)
-  agree_further h = sym (all-step (agree_on image) id n less ∙ ap (λ (b : Bool). b && all (agree_on image) (id + 1) (n - (id + 1))) h)
+  agree_further h = sym (all_step (agree_on image) id n less ∙ ap (λ (b : Bool). b && all (agree_on image) (id + 1) (n - (id + 1))) h)
 
 -- a look at an id gives the next id exactly where both readings agree on it, else 0
-pub agree_step-zero : (b : Bool) (id next : ℕ) → next ≡ cond b (id + 1) 0 → next ≡ 0 → b ≡ false
-agree_step-zero b id next e h = (chose_second b (id + 1) 0 0 (λ z. omega arith) (sym e ∙ h)).0
+pub agree_step_zero : (b : Bool) (id next : ℕ) → next ≡ cond b (id + 1) 0 → next ≡ 0 → b ≡ false
+agree_step_zero b id next e h = (chose_second b (id + 1) 0 0 (λ z. omega arith) (sym e ∙ h)).0
 
 pub agree_step_nonzero : (b : Bool) (id next : ℕ) → next ≡ cond b (id + 1) 0 → (next ≡ 0 → ⊥) → b ≡ true
 agree_step_nonzero b id next e h = (chose_first b (id + 1) 0 next (λ z. h (sym z)) (sym e)).0
 
-pub agree_step-next : (b : Bool) (id next : ℕ) → next ≡ cond b (id + 1) 0 → (next ≡ 0 → ⊥) → next ≡ id + 1
-agree_step-next b id next e h = sym (chose_first b (id + 1) 0 next (λ z. h (sym z)) (sym e)).1
+pub agree_step_next : (b : Bool) (id next : ℕ) → next ≡ cond b (id + 1) 0 → (next ≡ 0 → ⊥) → next ≡ id + 1
+agree_step_next b id next e h = sym (chose_first b (id + 1) 0 next (λ z. h (sym z)) (sym e)).1
 
 -- what the hint at id 0 leaves to look at
 pub agree_hinted : (image : List ℕ) (n : ℕ) → n ≡ upper_hint image 0 → all (agree_on image) 0 n ≡ readings_agree image

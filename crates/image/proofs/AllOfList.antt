@@ -32,9 +32,9 @@ all_filter P test (x ∷ xs) all = all_with_first (test x) (all_filter P test xs
     all_with_first false rest = rest
 
 -- of what a function makes of them
-pub all-image : {A B : Type 0} {P : A → Type 0} (Q : B → Type 0) (f : A → B) → ((x : A) → P x → Q (f x)) → (xs : List A) → All P xs → All Q (map f xs)
-all-image Q f h [] all = tt
-all-image Q f h (x ∷ xs) all = (h x all.0, all-image Q f h xs all.1)
+pub all_image : {A B : Type 0} {P : A → Type 0} (Q : B → Type 0) (f : A → B) → ((x : A) → P x → Q (f x)) → (xs : List A) → All P xs → All Q (map f xs)
+all_image Q f h [] all = tt
+all_image Q f h (x ∷ xs) all = (h x all.0, all_image Q f h xs all.1)
 
 -- functions that agree on every element
 pub map_ext : {A B : Type 0} {P : A → Type 0} (f g : A → B) → ((x : A) → P x → f x ≡ g x) → (xs : List A) → All P xs → map f xs ≡ map g xs

@@ -5,9 +5,9 @@ use Rattle.image.specs.Bytes.{all}
 use Rattle.image.proofs.Bools.{and_first, and_second, and_both}
 
 module _ (f : ℕ → Bool) where
-  pub all-step : (t n : ℕ) → t < n → all f t (n - t) ≡ (f t && all f (t + 1) (n - (t + 1)))
+  pub all_step : (t n : ℕ) → t < n → all f t (n - t) ≡ (f t && all f (t + 1) (n - (t + 1)))
   unfolding all
-  all-step t n h =
+  all_step t n h =
       let p : n - t ≡ suc (n - (t + 1)) = omega arith in
       let q : suc t ≡ t + 1 = omega arith in
       ap (λ (m : ℕ). all f t m) p ∙ ap (λ (k : ℕ). f t && all f k (n - (t + 1))) q
@@ -15,7 +15,7 @@ module _ (f : ℕ → Bool) where
   -- one turn of a loop that joins what it found
   pub all_more : (t n : ℕ) (b x : Bool) → t < n → (b && all f t (n - t)) ≡ x → ((b && f t) && all f (t + 1) (n - (t + 1))) ≡ x
   all_more t n b x h p =
-      and_assoc b (f t) (all f (t + 1) (n - (t + 1))) ∙ ap (λ (c : Bool). b && c) (sym (all-step t n h)) ∙ p
+      and_assoc b (f t) (all f (t + 1) (n - (t + 1))) ∙ ap (λ (c : Bool). b && c) (sym (all_step t n h)) ∙ p
 
   pub all_end : (t : ℕ) (b x : Bool) → (b && all f t 0) ≡ x → b ≡ x
   unfolding all

@@ -2,8 +2,8 @@
 use Rattle.std.proofs.Common.{◌≡◌, ℕ, zero, suc, ◌+◌, ◌*◌, ◌^◌, ◌<◌, ◌≤◌, List, [], ◌∷◌, ◌++◌, length, get_or, take, drop, sym, ap, ◌∙◌, append_assoc, append-nil, add-zero, arith, length-append, length-drop, drop-drop}
 use lib.Seq.{take-append_seam, drop-append_seam}
 use Rattle.image.specs.Bytes.{word, le32, cat}
-use Rattle.image.proofs.Words.{word-drop, word-le32, length-le32}
-use Rattle.image.proofs.Lists.{cat-append, cat-cons}
+use Rattle.image.proofs.Words.{word_drop, word_le32, length_le32}
+use Rattle.image.proofs.Lists.{cat_append, cat_cons}
 
 -- the bytes bs stand in img from offset o on
 pub record At (img : List ℕ) (o : ℕ) (bs : List ℕ) : Type 0 where
@@ -44,20 +44,20 @@ module _ {img : List ℕ} {o : ℕ} where
   pub at_word : (w : ℕ) → At img o (le32 w) → w < 2 ^ 32 → word img o ≡ w
   at_word w a h =
       ap (word img) (sym (add-zero o))
-      ∙ sym (word-drop img o 0)
+      ∙ sym (word_drop img o 0)
       ∙ ap (λ (l : List ℕ). word l 0) a.stands
-      ∙ word-le32 w a.post h
+      ∙ word_le32 w a.post h
 
   -- two words in a row
   pub at_second : (v w : ℕ) → At img o (le32 v ++ le32 w) → At img (o + 4) (le32 w)
-  at_second v w a = at_same (ap (λ (n : ℕ). o + n) (length-le32 v)) (at_right (le32 v) (le32 w) a)
+  at_second v w a = at_same (ap (λ (n : ℕ). o + n) (length_le32 v)) (at_right (le32 v) (le32 w) a)
 
 -- a part of many
 module _ {A : Type 0} (f : A → List ℕ) {img : List ℕ} where
   pub at_after : (o : ℕ) (xs : List A) (y : A) (ys : List A) → At img o (cat f (xs ++ y ∷ ys)) → At img (o + length (cat f xs)) (f y)
   at_after o xs y ys a =
       at_left (f y) (cat f ys)
-      (at_right (cat f xs) (f y ++ cat f ys) (at_equal (cat-append f xs (y ∷ ys) ∙ ap (λ (l : List ℕ). cat f xs ++ l) (cat-cons f y ys)) a))
+      (at_right (cat f xs) (f y ++ cat f ys) (at_equal (cat_append f xs (y ∷ ys) ∙ ap (λ (l : List ℕ). cat f xs ++ l) (cat_cons f y ys)) a))
 
   -- parts of one size
   pub at_part : (size : ℕ) → ((x : A) → length (f x) ≡ size) → (o : ℕ) (xs : List A) (i : ℕ) (d : A) → At img o (cat f xs) → i < length xs

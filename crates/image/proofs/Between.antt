@@ -8,15 +8,15 @@ use Rattle.image.specs.Steps.EntryLength.{whole_length}
 use Rattle.image.specs.Steps.Contracts.{WholeLengthPre, WholeLength, NameAtPre}
 use Rattle.image.proofs.EntryArea.{whole_first}
 
-pub length-between : (buf : List ℕ) (at end : ℕ) → at ≤ end → end ≤ length buf → length (between buf at end) ≡ end - at
-length-between buf at end h k = simp (length-take, length-drop) (omega arith)
+pub length_between : (buf : List ℕ) (at end : ℕ) → at ≤ end → end ≤ length buf → length (between buf at end) ≡ end - at
+length_between buf at end h k = simp (length-take, length-drop) (omega arith)
 
 pub get_d_between : (buf : List ℕ) (at end i : ℕ) → i < end - at → get_or (between buf at end) i 0 ≡ get_or buf (at + i) 0
 get_d_between buf at end i h = get_or-take (end - at) (drop at buf) i 0 h ∙ get_or-drop at buf i 0
 
-pub word-between : (buf : List ℕ) (at end o : ℕ) → o + 4 ≤ end - at → word (between buf at end) o ≡ word buf (at + o)
+pub word_between : (buf : List ℕ) (at end o : ℕ) → o + 4 ≤ end - at → word (between buf at end) o ≡ word buf (at + o)
 unfolding word
-word-between buf at end o h =
+word_between buf at end o h =
     omega
     (arith, get_d_between buf at end o (omega arith), byte 1 (omega arith), byte 2 (omega arith), byte 3 (omega arith))
   where
@@ -37,24 +37,24 @@ drop-take (suc n) (suc m) (x ∷ l) =
     let e : m - n ≡ suc m - suc n = omega arith in
     drop-take n m l ∙ ap (λ (k : ℕ). take k (drop n l)) e
 
-pub drop-between : (buf : List ℕ) (at end k : ℕ) → drop k (between buf at end) ≡ between buf (at + k) end
-drop-between buf at end k =
+pub drop_between : (buf : List ℕ) (at end k : ℕ) → drop k (between buf at end) ≡ between buf (at + k) end
+drop_between buf at end k =
     let e : end - at - k ≡ end - (at + k) = omega arith in
     drop-take k (end - at) (drop at buf)
     ∙ ap (λ (l : List ℕ). take (end - at - k) l) (drop-drop k at buf)
     ∙ ap (λ (n : ℕ). take n (drop (at + k) buf)) e
 
-take-take-min : (n m : ℕ) (l : List ℕ) → n ≤ m → take n (take m l) ≡ take n l
-take-take-min zero m l h = refl
-take-take-min (suc n) zero l h = absurd (omega arith)
-take-take-min (suc n) (suc m) [] h = refl
-take-take-min (suc n) (suc m) (x ∷ l) h =
+take-take_min : (n m : ℕ) (l : List ℕ) → n ≤ m → take n (take m l) ≡ take n l
+take-take_min zero m l h = refl
+take-take_min (suc n) zero l h = absurd (omega arith)
+take-take_min (suc n) (suc m) [] h = refl
+take-take_min (suc n) (suc m) (x ∷ l) h =
     let k : n ≤ m = omega arith in
-    ap (λ (r : List ℕ). x ∷ r) (take-take-min n m l k)
+    ap (λ (r : List ℕ). x ∷ r) (take-take_min n m l k)
 
-word-take : (buf : List ℕ) (end o : ℕ) → o + 4 ≤ end → word (take end buf) o ≡ word buf o
+word_take : (buf : List ℕ) (end o : ℕ) → o + 4 ≤ end → word (take end buf) o ≡ word buf o
 unfolding word
-word-take buf end o h =
+word_take buf end o h =
     omega (
       arith,
       get_or-take end buf o 0 (omega arith),
@@ -66,23 +66,23 @@ word-take buf end o h =
 -- ---- what depends on the bytes before `end` alone
 
 module _ (a b : List ℕ) (end : ℕ) (same : take end a ≡ take end b) where
-  pub between-same : (at : ℕ) → between a at end ≡ between b at end
-  between-same at = sym (drop-take at end a) ∙ ap (drop at) same ∙ drop-take at end b
+  pub between_same : (at : ℕ) → between a at end ≡ between b at end
+  between_same at = sym (drop-take at end a) ∙ ap (drop at) same ∙ drop-take at end b
 
   pub word_same : (o : ℕ) → o + 4 ≤ end → word a o ≡ word b o
-  word_same o h = sym (word-take a end o h) ∙ ap (λ (l : List ℕ). word l o) same ∙ word-take b end o h
+  word_same o h = sym (word_take a end o h) ∙ ap (λ (l : List ℕ). word l o) same ∙ word_take b end o h
 
 -- stores from a place on leave what is before it
-pub take-sets : (vs l : List ℕ) (n i : ℕ) → n ≤ i → take n (sets l i vs) ≡ take n l
-take-sets [] l n i h = refl
-take-sets (v ∷ vs) l n i h = take-sets vs (set l i v) n (suc i) (omega arith) ∙ take-set-le n l i v h
+pub take_sets : (vs l : List ℕ) (n i : ℕ) → n ≤ i → take n (sets l i vs) ≡ take n l
+take_sets [] l n i h = refl
+take_sets (v ∷ vs) l n i h = take_sets vs (set l i v) n (suc i) (omega arith) ∙ take-set-le n l i v h
 
 -- the name of the entry at the front
 pub name_between : (buf : List ℕ) (at end n : ℕ) → 8 + n ≤ end - at → 1 ≤ n
     → take (n - 1) (drop 8 (between buf at end)) ≡ take (n - 1) (drop (at + 8) buf)
 name_between buf at end n h k =
-    ap (λ (l : List ℕ). take (n - 1) l) (drop-between buf at end 8)
-    ∙ take-take-min (n - 1) (end - (at + 8)) (drop (at + 8) buf) (omega arith)
+    ap (λ (l : List ℕ). take (n - 1) l) (drop_between buf at end 8)
+    ∙ take-take_min (n - 1) (end - (at + 8)) (drop (at + 8) buf) (omega arith)
 
 -- ---- the length word of a whole entry, 0 otherwise
 
@@ -106,10 +106,10 @@ module _ (bytes : List ℕ) where
       rw
       (le-leb 8 (length bytes) h, le-leb 1 (word bytes 4) k, le-leb (8 + word bytes 4) (length bytes) l, ne_eqb (get_or bytes (7 + word bytes 4) 0) 0 m)
 
-  pub is-whole : 8 ≤ length bytes → 1 ≤ word bytes 4 → 8 + word bytes 4 ≤ length bytes → get_or bytes (7 + word bytes 4) 0 ≡ 0
+  pub is_whole : 8 ≤ length bytes → 1 ≤ word bytes 4 → 8 + word bytes 4 ≤ length bytes → get_or bytes (7 + word bytes 4) 0 ≡ 0
       → word bytes 4 ≡ whole_length bytes
   unfolding whole_length
-  is-whole h k l m =
+  is_whole h k l m =
       rw
       (le-leb 8 (length bytes) h, le-leb 1 (word bytes 4) k, le-leb (8 + word bytes 4) (length bytes) l, eq-eqb (get_or bytes (7 + word bytes 4) 0) 0 m)
 
@@ -139,12 +139,12 @@ pub entry_room : (buf : List ℕ) (at end n : ℕ) → at ≤ end → end ≤ le
     → EntryRoom buf at end n
 entry_room buf at end n h k e nz =
     let f = front (between buf at end) n e nz in
-    let before : at + (8 + n) ≤ end = omega (arith, f.inside, length-between buf at end h k) in
+    let before : at + (8 + n) ≤ end = omega (arith, f.inside, length_between buf at end h k) in
     record { before = before; name = record { inside = omega arith; some = f.some } }
 
-pub not-whole : (bytes : List ℕ) → 0 ≡ whole_length bytes → first_whole bytes ≡ false
+pub not_whole : (bytes : List ℕ) → 0 ≡ whole_length bytes → first_whole bytes ≡ false
 unfolding whole_length
-not-whole bytes e = none_where_whole (first_whole bytes) refl e
+not_whole bytes e = none_where_whole (first_whole bytes) refl e
   where
     none_where_whole : (b : Bool) → first_whole bytes ≡ b → 0 ≡ cond b (word bytes 4) 0 → b ≡ false
     none_where_whole true p q = let w = whole_first bytes p in absurd (omega arith)
@@ -154,14 +154,14 @@ not-whole bytes e = none_where_whole (first_whole bytes) refl e
 
 module _ {buf : List ℕ} {at end : ℕ} (pre : WholeLengthPre buf at end) where
   size : length (between buf at end) ≡ end - at
-  size = length-between buf at end pre.from pre.inside
+  size = length_between buf at end pre.from pre.inside
 
   pub short_there : end - at < 8 → WholeLength buf at end 0
   short_there e = let s = size in record { is = too_short (between buf at end) (omega arith); small = omega arith }
 
   module _ (e : 8 ≤ end - at) (n : ℕ) (q : n ≡ word buf (at + 4)) where
     length_there : word (between buf at end) 4 ≡ n
-    length_there = word-between buf at end 4 (omega arith) ∙ sym q
+    length_there = word_between buf at end 4 (omega arith) ∙ sym q
 
     pub none_there : n ≡ 0 → WholeLength buf at end 0
     none_there z =
@@ -196,6 +196,6 @@ module _ {buf : List ℕ} {at end : ℕ} (pre : WholeLengthPre buf at end) where
             let s = size in
             let w = length_there in
             record {
-              is = sym w ∙ is-whole (between buf at end) (omega arith) (omega arith) (omega arith) (last_there ∙ m);
+              is = sym w ∙ is_whole (between buf at end) (omega arith) (omega arith) (omega arith) (last_there ∙ m);
               small = small;
             }

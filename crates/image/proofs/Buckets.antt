@@ -12,9 +12,9 @@ length-probe_sequence n zero k = refl
 length-probe_sequence n (suc m) k = ap suc (length-probe_sequence n m (next n k))
 
 -- the first of them, and the rest
-pub probe_sequence-step : (n left k : ℕ) → 0 < left → probe_sequence n left k ≡ k ∷ probe_sequence n (left - 1) (next n k)
+pub probe_sequence_step : (n left k : ℕ) → 0 < left → probe_sequence n left k ≡ k ∷ probe_sequence n (left - 1) (next n k)
 unfolding probe_sequence
-probe_sequence-step n left k h = let e : left ≡ suc (left - 1) = omega arith in ap (λ (m : ℕ). probe_sequence n m k) e
+probe_sequence_step n left k h = let e : left ≡ suc (left - 1) = omega arith in ap (λ (m : ℕ). probe_sequence n m k) e
 
 -- searches that see the same in each bucket find the same
 pub first_empty_ext : (f g : ℕ → ℕ) (n : ℕ) → ((k : ℕ) → k < n → f k ≡ g k) → (m k : ℕ) → k < n
@@ -39,14 +39,14 @@ module _ (P : Bucket → Type 0) where
       by_place (yes e) (yes h) = rw (e, get_or-set_same table i b empty h) one
       by_place (yes e) (no h) = let q : length table ≤ i = omega arith in rw (set_out table i b q) (all k)
 
-  insert_all-all : (n : ℕ) (table bs : List Bucket) → ((k : ℕ) → P (get_or table k empty)) → All P bs → (k : ℕ) → P (get_or (insert_all n table bs) k empty)
+  insert_all_all : (n : ℕ) (table bs : List Bucket) → ((k : ℕ) → P (get_or table k empty)) → All P bs → (k : ℕ) → P (get_or (insert_all n table bs) k empty)
   unfolding insert_all insert
-  insert_all-all n table [] all each = all
-  insert_all-all n table (b ∷ bs) all each =
-      insert_all-all n (insert n table b) bs
+  insert_all_all n table [] all each = all
+  insert_all_all n table (b ∷ bs) all each =
+      insert_all_all n (insert n table b) bs
       (set_all table (first_empty (at_of table) (probe_sequence n n (start b.hash n))) b all each.0)
       each.1
 
-  pub filled-all : (n : ℕ) (bs : List Bucket) → P empty → All P bs → (k : ℕ) → P (get_or (filled n bs) k empty)
+  pub filled_all : (n : ℕ) (bs : List Bucket) → P empty → All P bs → (k : ℕ) → P (get_or (filled n bs) k empty)
   unfolding filled
-  filled-all n bs none each = insert_all-all n (replicate n empty) bs (λ k. rw (get_or_empties n k) none) each
+  filled_all n bs none each = insert_all_all n (replicate n empty) bs (λ k. rw (get_or_empties n k) none) each

@@ -6,7 +6,7 @@ use Rattle.jhash.proofs.WordRead.{word_below}
 pub use Rattle.jhash.specs.Word.{AllBytes}
 use Rattle.image.specs.Bytes.{word, le32, cat}
 use Rattle.image.specs.Image.{Entry, entry_bytes}
-use Rattle.image.proofs.Words.{word-drop, le32-bytes}
+use Rattle.image.proofs.Words.{word_drop, le32_bytes}
 use Rattle.image.proofs.Bools.{and_first, and_second}
 use Rattle.image.proofs.AllOfList.{All}
 use Rattle.image.specs.Stored.{first_entry, after_first, first_whole, whole, entries_in}
@@ -30,7 +30,7 @@ front_word [] h k = absurd (omega arith)
 front_word (a ∷ []) h k = absurd (omega arith)
 front_word (a ∷ b ∷ []) h k = absurd (omega arith)
 front_word (a ∷ b ∷ c ∷ []) h k = absurd (omega arith)
-front_word (a ∷ b ∷ c ∷ d ∷ l) h k = ap (λ (r : List ℕ). r ++ l) (sym (le32-bytes a b c d (h 0) (h 1) (h 2) (h 3)))
+front_word (a ∷ b ∷ c ∷ d ∷ l) h k = ap (λ (r : List ℕ). r ++ l) (sym (le32_bytes a b c d (h 0) (h 1) (h 2) (h 3)))
 
 -- ---- one entry
 
@@ -60,7 +60,7 @@ module _ (l : List ℕ) (bytes : AllBytes l) (w : WholeFirst l) where
   second_word : drop 4 l ≡ le32 (word l 4) ++ drop 8 l
   second_word =
       front_word (drop 4 l) (bytes_drop 4 l bytes) (omega (arith, length-drop 4 l, w.words))
-      ∙ ap (λ (k : ℕ). le32 k ++ drop 4 (drop 4 l)) (word-drop l 4 0)
+      ∙ ap (λ (k : ℕ). le32 k ++ drop 4 (drop 4 l)) (word_drop l 4 0)
       ∙ ap (λ (r : List ℕ). le32 (word l 4) ++ r) (drop-drop 4 4 l)
 
   name_length : length (first_entry l).name + 1 ≡ word l 4
@@ -99,14 +99,14 @@ unfolding entries_in
 length-entries_in zero bytes = refl
 length-entries_in (suc n) bytes = ap suc (length-entries_in n (after_first bytes))
 
-pub whole-bytes : (n : ℕ) (l : List ℕ) → AllBytes l → whole n l ≡ true → l ≡ cat entry_bytes (entries_in n l)
+pub whole_bytes : (n : ℕ) (l : List ℕ) → AllBytes l → whole n l ≡ true → l ≡ cat entry_bytes (entries_in n l)
 unfolding whole entries_in cat
-whole-bytes zero [] bytes h = refl
-whole-bytes zero (x ∷ l) bytes h = absurd (let z = eqb-true (length (x ∷ l)) 0 h in omega arith)
-whole-bytes (suc n) l bytes h =
+whole_bytes zero [] bytes h = refl
+whole_bytes zero (x ∷ l) bytes h = absurd (let z = eqb-true (length (x ∷ l)) 0 h in omega arith)
+whole_bytes (suc n) l bytes h =
     first_bytes l bytes (whole_first l (and_first (first_whole l) (whole n (after_first l)) h))
     ∙ ap (λ (r : List ℕ). entry_bytes (first_entry l) ++ r)
-    (whole-bytes n (after_first l) (bytes_drop (8 + word l 4) l bytes) (and_second (first_whole l) (whole n (after_first l)) h))
+    (whole_bytes n (after_first l) (bytes_drop (8 + word l 4) l bytes) (and_second (first_whole l) (whole n (after_first l)) h))
 
 pub ids_words : (n : ℕ) (l : List ℕ) → AllBytes l → All (λ (e : Entry). e.id < 2 ^ 32) (entries_in n l)
 unfolding entries_in

@@ -3,8 +3,8 @@ use Rattle.std.proofs.Common.{◌≡◌, ℕ, ◌+◌, ◌^◌, ◌<◌, ◌≤�
 use Rattle.image.specs.Bytes.{word, le32, cat}
 use Rattle.image.specs.Image.{Entry, Placed, head_size, entry_bytes, entry_size, placed, back_size, image}
 use Rattle.image.specs.declared.Mode.{Mode}
-use Rattle.image.proofs.Words.{length-le32}
-use Rattle.image.proofs.Lists.{cat-cons}
+use Rattle.image.proofs.Words.{length_le32}
+use Rattle.image.proofs.Lists.{cat_cons}
 use Rattle.image.proofs.Sizes.{length-entry_bytes}
 use Rattle.image.proofs.AllOfList.{All}
 use Rattle.image.proofs.At.{At, at_same, at_equal, at_left, at_right, at_fits, at_take, at_word, at_second}
@@ -25,8 +25,8 @@ module _ {img : List ℕ} {o : ℕ} (e : Entry) (a : At img o (entry_bytes e)) w
   pub id_word : e.id < 2 ^ 32 → word img o ≡ e.id
   id_word h = at_word e.id (at_left (le32 e.id) (le32 (length e.name + 1)) words_at) h
 
-  pub length-word : length e.name + 1 < 2 ^ 32 → word img (o + 4) ≡ length e.name + 1
-  length-word h = at_word (length e.name + 1) (at_second e.id (length e.name + 1) words_at) h
+  pub length_word : length e.name + 1 < 2 ^ 32 → word img (o + 4) ≡ length e.name + 1
+  length_word h = at_word (length e.name + 1) (at_second e.id (length e.name + 1) words_at) h
 
   name_at : At img (o + 8) e.name
   unfolding entry_bytes
@@ -36,7 +36,7 @@ module _ {img : List ℕ} {o : ℕ} (e : Entry) (a : At img o (entry_bytes e)) w
       (at_left (le32 e.id ++ le32 (length e.name + 1) ++ e.name) (0 ∷ []) a))
     where
       eight : o + length (le32 e.id ++ le32 (length e.name + 1)) ≡ o + 8
-      eight = simp (length-append, length-le32)
+      eight = simp (length-append, length_le32)
 
   pub name_bytes : take (length e.name) (drop (o + 8) img) ≡ e.name
   name_bytes = at_take name_at
@@ -51,7 +51,7 @@ pub placed_at : (img : List ℕ) (o : ℕ) (es : List Entry) → 0 < o → At im
 unfolding placed
 placed_at img o [] h a = tt
 placed_at img o (e ∷ es) h a =
-    let b : At img o (entry_bytes e ++ cat entry_bytes es) = at_equal (cat-cons entry_bytes e es) a in (
+    let b : At img o (entry_bytes e ++ cat entry_bytes es) = at_equal (cat_cons entry_bytes e es) a in (
       record { there = at_left (entry_bytes e) (cat entry_bytes es) b; after = h },
       placed_at img (o + entry_size e) es (omega arith)
           (at_same (ap (λ (n : ℕ). o + n) (length-entry_bytes e)) (at_right (entry_bytes e) (cat entry_bytes es) b)),

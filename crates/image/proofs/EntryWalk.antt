@@ -12,7 +12,7 @@ use Rattle.image.specs.Steps.EntryLength.{whole_length}
 use Rattle.image.specs.Steps.Walk.{IsSoughtPre}
 use Rattle.image.specs.Tally.{tallied, raised_counts, counts_after}
 use Rattle.image.proofs.Equal.{same_false}
-use Rattle.image.proofs.Between.{Front, not-whole, length-between, drop-between, word-between, name_between}
+use Rattle.image.proofs.Between.{Front, not_whole, length_between, drop_between, word_between, name_between}
 
 -- one more in one table raises no count by more than one
 set_one : (l : List ℕ) (u : ℕ) → get_or (set l u (get_or l u 0 + 1)) u 0 ≤ get_or l u 0 + 1
@@ -49,51 +49,51 @@ walk_start buf end entries counts h z =
       counts_small = λ t. omega (arith, z t);
     }
 
-whole-suc : (m : ℕ) (bytes : List ℕ) → whole (suc m) bytes ≡ (first_whole bytes && whole m (after_first bytes))
+whole_suc : (m : ℕ) (bytes : List ℕ) → whole (suc m) bytes ≡ (first_whole bytes && whole m (after_first bytes))
 unfolding whole
-whole-suc m bytes = refl
+whole_suc m bytes = refl
 
-entries_in-suc : (m : ℕ) (bytes : List ℕ) → entries_in (suc m) bytes ≡ first_entry bytes ∷ entries_in m (after_first bytes)
+entries_in_suc : (m : ℕ) (bytes : List ℕ) → entries_in (suc m) bytes ≡ first_entry bytes ∷ entries_in m (after_first bytes)
 unfolding entries_in
-entries_in-suc m bytes = refl
+entries_in_suc m bytes = refl
 
 back_size-cons : (e : Entry) (es : List Entry) → back_size (e ∷ es) ≡ max (e.id + 1) (back_size es)
 unfolding back_size
 back_size-cons e es = refl
 
-pub tallied-cons : (counts : List ℕ) (e : Entry) (es : List Entry) → tallied counts (e ∷ es) ≡ tallied (raised_counts counts (hash_of e.name)) es
+pub tallied_cons : (counts : List ℕ) (e : Entry) (es : List Entry) → tallied counts (e ∷ es) ≡ tallied (raised_counts counts (hash_of e.name)) es
 unfolding tallied counts_after
-tallied-cons counts e es = refl
+tallied_cons counts e es = refl
 
 -- the bytes and the entries after the first
 module _ (buf : List ℕ) (at end n m : ℕ) (h : at ≤ end) (k : end ≤ length buf) (f : Front (between buf at end) n) where
   inner : 8 + n ≤ end - at
-  inner = let i = f.inside in let e = length-between buf at end h k in omega arith
+  inner = let i = f.inside in let e = length_between buf at end h k in omega arith
 
-  pub after_first : after_first (between buf at end) ≡ between buf (at + (8 + n)) end
-  after_first =
-      ap (λ (w : ℕ). drop (8 + w) (between buf at end)) f.is ∙ drop-between buf at end (8 + n)
+  pub after_first_lem : after_first (between buf at end) ≡ between buf (at + (8 + n)) end
+  after_first_lem =
+      ap (λ (w : ℕ). drop (8 + w) (between buf at end)) f.is ∙ drop_between buf at end (8 + n)
 
   pub whole_rest : whole (suc m) (between buf at end) ≡ whole m (between buf (at + (8 + n)) end)
   whole_rest =
-      whole-suc m (between buf at end)
+      whole_suc m (between buf at end)
       ∙ ap (λ (b : Bool). b && whole m (after_first (between buf at end))) f.yes
-      ∙ ap (λ (l : List ℕ). whole m l) after_first
+      ∙ ap (λ (l : List ℕ). whole m l) after_first_lem
 
-  pub first-id : (first_entry (between buf at end)).id ≡ word buf at
-  first-id =
+  pub first_id_lem : (first_entry (between buf at end)).id ≡ word buf at
+  first_id_lem =
       let e : at + 0 ≡ at = omega arith in
       let j = inner in
-      word-between buf at end 0 (omega arith) ∙ ap (λ (o : ℕ). word buf o) e
+      word_between buf at end 0 (omega arith) ∙ ap (λ (o : ℕ). word buf o) e
 
-  pub first-name : (first_entry (between buf at end)).name ≡ take (n - 1) (drop (at + 8) buf)
-  first-name =
+  pub first_name_lem : (first_entry (between buf at end)).name ≡ take (n - 1) (drop (at + 8) buf)
+  first_name_lem =
       ap (λ (w : ℕ). take (w - 1) (drop 8 (between buf at end))) f.is ∙ name_between buf at end n inner f.some
 
   pub entries_rest : entries_in (suc m) (between buf at end) ≡ first_entry (between buf at end) ∷ entries_in m (between buf (at + (8 + n)) end)
   entries_rest =
-      entries_in-suc m (between buf at end)
-      ∙ ap (λ (l : List ℕ). first_entry (between buf at end) ∷ entries_in m l) after_first
+      entries_in_suc m (between buf at end)
+      ∙ ap (λ (l : List ℕ). first_entry (between buf at end) ∷ entries_in m l) after_first_lem
 
 -- one step of the walk
 pub walk_step : (buf : List ℕ) (end entries : ℕ) (counts₀ : List ℕ) (at left back : ℕ) (counts : List ℕ) → end ≤ length buf
@@ -106,17 +106,17 @@ walk_step buf end entries counts₀ at left back counts k r some n h id name cou
     let l : left ≡ suc m = omega arith in
     let a = r.inside in
     let fi = f.inside in
-    let le = length-between buf at end a k in
+    let le = length_between buf at end a k in
     let and_first = first_entry (between buf at end) in
     let later = entries_in m (between buf (at + (8 + n)) end) in
     let es : entries_in left (between buf at end) ≡ and_first ∷ later =
     ap (λ (q : ℕ). entries_in q (between buf at end)) l ∙ entries_rest buf at end n m a k f in
-    let fid : and_first.id ≡ id = first-id buf at end n m a k f ∙ sym ei in
-    let fh : hash_of and_first.name ≡ h = ap hash_of (first-name buf at end n m a k f ∙ sym en) ∙ sym eh in
+    let fid : and_first.id ≡ id = first_id_lem buf at end n m a k f ∙ sym ei in
+    let fh : hash_of and_first.name ≡ h = ap hash_of (first_name_lem buf at end n m a k f ∙ sym en) ∙ sym eh in
     let bs : back_size (entries_in left (between buf at end)) ≡ max (id + 1) (back_size later) =
     ap back_size es ∙ back_size-cons and_first later ∙ ap (λ (q : ℕ). max (q + 1) (back_size later)) fid in
     let ts : tallied counts (entries_in left (between buf at end)) ≡ tallied counts' later =
-    ap (λ (q : List Entry). tallied counts q) es ∙ tallied-cons counts and_first later
+    ap (λ (q : List Entry). tallied counts q) es ∙ tallied_cons counts and_first later
     ∙ ap (λ (q : ℕ). tallied (raised_counts counts q) later) fh ∙ ap (λ (q : List ℕ). tallied q later) (sym ec) in
     record {
       inside = omega arith;
@@ -162,7 +162,7 @@ contains_step buf end entries sought at left so_far k a some m n name b f en eb 
     let l : left ≡ suc (left - 1) = omega arith in
     let es : entries_in left (between buf at end) ≡ and_first ∷ later =
     ap (λ (q : ℕ). entries_in q (between buf at end)) l ∙ entries_rest buf at end n (left - 1) a k f in
-    let h : b ≡ has_name sought and_first = eb ∙ ap (λ (q : List ℕ). same q sought) (en ∙ sym (first-name buf at end n (left - 1) a k f)) in
+    let h : b ≡ has_name sought and_first = eb ∙ ap (λ (q : List ℕ). same q sought) (en ∙ sym (first_name_lem buf at end n (left - 1) a k f)) in
     or_assoc so_far b (contains_name sought later)
     ∙ ap (λ (q : Bool). so_far || (q || contains_name sought later)) h
     ∙ ap (λ (q : Bool). so_far || q) (sym (contains_name-cons sought and_first later) ∙ ap (contains_name sought) (sym es))
@@ -179,16 +179,16 @@ contains_end buf end entries sought at left so_far z m =
     ∙ m
 
 -- a broken entry
-pub walk-broken : (buf : List ℕ) (end entries : ℕ) (counts₀ : List ℕ) (at left back : ℕ) (counts : List ℕ)
+pub walk_broken : (buf : List ℕ) (end entries : ℕ) (counts₀ : List ℕ) (at left back : ℕ) (counts : List ℕ)
     → Rest buf end entries counts₀ at left back counts → 0 < left → 0 ≡ whole_length (between buf at end)
     → false ≡ whole entries (between buf 2072 end)
-walk-broken buf end entries counts₀ at left back counts r some z =
+walk_broken buf end entries counts₀ at left back counts r some z =
     let l : left ≡ suc (left - 1) = omega arith in
     sym
     (sym r.whole_same
     ∙ ap (λ (q : ℕ). whole q (between buf at end)) l
-    ∙ whole-suc (left - 1) (between buf at end)
-    ∙ ap (λ (b : Bool). b && whole (left - 1) (after_first (between buf at end))) (not-whole (between buf at end) z))
+    ∙ whole_suc (left - 1) (between buf at end)
+    ∙ ap (λ (b : Bool). b && whole (left - 1) (after_first (between buf at end))) (not_whole (between buf at end) z))
 
 -- the end of the walk
 pub walk_end : (buf : List ℕ) (end entries : ℕ) (counts₀ : List ℕ) (at back : ℕ) (counts : List ℕ) → end ≤ length buf
@@ -197,7 +197,7 @@ pub walk_end : (buf : List ℕ) (end entries : ℕ) (counts₀ : List ℕ) (at b
     × (counts ≡ tallied counts₀ (entries_in entries (between buf 2072 end)))
 unfolding whole entries_in tallied back_size
 walk_end buf end entries counts₀ at back counts k r =
-    (same_place ∙ ap (λ (n : ℕ). eqb n 0) (sym (length-between buf at end r.inside k)) ∙ r.whole_same, omega (arith, r.back_same), r.counts_same)
+    (same_place ∙ ap (λ (n : ℕ). eqb n 0) (sym (length_between buf at end r.inside k)) ∙ r.whole_same, omega (arith, r.back_same), r.counts_same)
   where
     same_place : eqb at end ≡ eqb (end - at) 0
     same_place =

@@ -5,7 +5,7 @@ use mathlib.Core.Bool.{and-false, and-eq-true_iff}
 use Rattle.jhash.specs.Word.{AllBytes}
 use Rattle.jhash.proofs.WordRead.{word_of, word_below}
 use Rattle.image.specs.Bytes.{word, le32, same}
-use Rattle.image.proofs.Words.{le32-bytes}
+use Rattle.image.proofs.Words.{le32_bytes}
 
 -- the loops over two byte strings, before byte i: what is left is equal exactly where all from `from` on is
 pub record SameInv (a b : List ℕ) (from i : ℕ) : Type 0 where
@@ -73,7 +73,7 @@ of_bytes s i = word_of s i (get_or s i 0) (byte s i 1) (byte s i 2) (byte s i 3)
 
 bytes_of : (s : List ℕ) (i : ℕ) → AllBytes s → le32 (word s i) ≡ get_or s i 0 ∷ byte s i 1 ∷ byte s i 2 ∷ byte s i 3 ∷ []
 bytes_of s i h =
-    ap le32 (sym (of_bytes s i)) ∙ le32-bytes (get_or s i 0) (byte s i 1) (byte s i 2) (byte s i 3) (h i) (h (i + 1)) (h (i + 2)) (h (i + 3))
+    ap le32 (sym (of_bytes s i)) ∙ le32_bytes (get_or s i 0) (byte s i 1) (byte s i 2) (byte s i 3) (h i) (h (i + 1)) (h (i + 2)) (h (i + 3))
 
 -- a test that fails in one of four parts
 and_four : (p q r s t : Bool) → (p ≡ true → q ≡ true → r ≡ true → s ≡ true → ⊥) → p && (q && (r && (s && t))) ≡ false

@@ -4,7 +4,7 @@ use Rattle.jhash.specs.Word.{AllBytes}
 use Rattle.jhash.proofs.WordRead.{word_below}
 use Rattle.image.specs.Tables.{next, probe_sequence, first_empty}
 use Rattle.image.specs.Steps.Contracts.{BucketIs, offset_at, hidden, first_empty_before}
-use Rattle.image.proofs.Buckets.{probe_sequence-step, first_empty_ext}
+use Rattle.image.proofs.Buckets.{probe_sequence_step, first_empty_ext}
 
 -- the first empty bucket is to be found among the `left` buckets from i on
 pub record Probing (at : ℕ → ℕ) (n k i left : ℕ) : Type 0 where
@@ -21,7 +21,7 @@ module _ {at : ℕ → ℕ} {n k i left : ℕ} (p : Probing at n k i left) where
   module _ (more : 0 < left) where
     turn : cond (eqb (at i) 0) i (first_empty at (probe_sequence n (left - 1) (next n i))) ≡ first_empty at (probe_sequence n n k)
     unfolding first_empty
-    turn = sym (ap (first_empty at) (probe_sequence-step n left i more)) ∙ p.same
+    turn = sym (ap (first_empty at) (probe_sequence_step n left i more)) ∙ p.same
 
     pub probing_here : at i ≡ 0 → BucketIs (first_empty at (probe_sequence n n k)) n i
     probing_here z = record { is = rw (eq-eqb (at i) 0 z) at turn; inside = p.inside }

@@ -3,23 +3,23 @@ use Rattle.std.proofs.Common.{◌≡◌, ℕ, zero, suc, ◌+◌, ◌-◌, ◌*�
 use Rattle.image.specs.Bytes.{cat, filter, range}
 
 module _ {A : Type 0} (f : A → List ℕ) where
-  pub cat-cons : (x : A) (xs : List A) → cat f (x ∷ xs) ≡ f x ++ cat f xs
+  pub cat_cons : (x : A) (xs : List A) → cat f (x ∷ xs) ≡ f x ++ cat f xs
   unfolding cat
-  cat-cons x xs = refl
+  cat_cons x xs = refl
 
-  pub cat-append : (xs ys : List A) → cat f (xs ++ ys) ≡ cat f xs ++ cat f ys
+  pub cat_append : (xs ys : List A) → cat f (xs ++ ys) ≡ cat f xs ++ cat f ys
   unfolding cat
-  cat-append [] ys = refl
-  cat-append (x ∷ xs) ys = ap (λ (l : List ℕ). f x ++ l) (cat-append xs ys) ∙ sym (append_assoc (f x) (cat f xs) (cat f ys))
+  cat_append [] ys = refl
+  cat_append (x ∷ xs) ys = ap (λ (l : List ℕ). f x ++ l) (cat_append xs ys) ∙ sym (append_assoc (f x) (cat f xs) (cat f ys))
 
   -- parts of one size
-  pub length-cat : (k : ℕ) → ((x : A) → length (f x) ≡ k) → (xs : List A) → length (cat f xs) ≡ k * length xs
+  pub length_cat : (k : ℕ) → ((x : A) → length (f x) ≡ k) → (xs : List A) → length (cat f xs) ≡ k * length xs
   unfolding cat
-  length-cat k h [] = omega arith
-  length-cat k h (x ∷ xs) =
+  length_cat k h [] = omega arith
+  length_cat k h (x ∷ xs) =
       let e = length-append (f x) (cat f xs) in
       let p = h x in
-      let q = length-cat k h xs in
+      let q = length_cat k h xs in
       sum k (length xs) (length (f x)) (length (cat f xs)) (length (f x ++ cat f xs)) e p q
     where
       sum : (k n a b c : ℕ) → c ≡ a + b → a ≡ k → b ≡ k * n → c ≡ k * suc n
@@ -32,12 +32,12 @@ cat_ext f g h [] = refl
 cat_ext f g h (x ∷ xs) = ap (λ (l : List ℕ). l ++ cat f xs) (h x) ∙ ap (λ (l : List ℕ). g x ++ l) (cat_ext f g h xs)
 
 -- parts of the same lengths one by one
-pub length-cat_const : {A : Type 0} (f g : A → List ℕ) → ((x : A) → length (f x) ≡ length (g x)) → (xs : List A) → length (cat f xs) ≡ length (cat g xs)
+pub length_cat_const : {A : Type 0} (f g : A → List ℕ) → ((x : A) → length (f x) ≡ length (g x)) → (xs : List A) → length (cat f xs) ≡ length (cat g xs)
 unfolding cat
-length-cat_const f g h [] = refl
-length-cat_const f g h (x ∷ xs) =
+length_cat_const f g h [] = refl
+length_cat_const f g h (x ∷ xs) =
     omega
-    (arith, length-append (f x) (cat f xs), length-append (g x) (cat g xs), h x, length-cat_const f g h xs)
+    (arith, length-append (f x) (cat f xs), length-append (g x) (cat g xs), h x, length_cat_const f g h xs)
 
 module _ {A : Type 0} (test : A → Bool) where
   pub filter_nil : filter test [] ≡ []
@@ -48,13 +48,13 @@ module _ {A : Type 0} (test : A → Bool) where
   unfolding filter
   filter-cons x xs = refl
 
-  pub filter-yes : (x : A) (xs : List A) → test x ≡ true → filter test (x ∷ xs) ≡ x ∷ filter test xs
+  pub filter_yes : (x : A) (xs : List A) → test x ≡ true → filter test (x ∷ xs) ≡ x ∷ filter test xs
   unfolding filter
-  filter-yes x xs h = rw h
+  filter_yes x xs h = rw h
 
-  pub filter-no : (x : A) (xs : List A) → test x ≡ false → filter test (x ∷ xs) ≡ filter test xs
+  pub filter_no : (x : A) (xs : List A) → test x ≡ false → filter test (x ∷ xs) ≡ filter test xs
   unfolding filter
-  filter-no x xs h = rw h
+  filter_no x xs h = rw h
 
   pub filter-append : (xs ys : List A) → filter test (xs ++ ys) ≡ filter test xs ++ filter test ys
   unfolding filter
@@ -66,10 +66,10 @@ module _ {A : Type 0} (test : A → Bool) where
       filter_with_first ih true = ap (λ (l : List A). x ∷ l) ih
       filter_with_first ih false = ih
 
-pub length-range : (s n : ℕ) → length (range s n) ≡ n
+pub length_range : (s n : ℕ) → length (range s n) ≡ n
 unfolding range
-length-range s zero = refl
-length-range s (suc n) = ap suc (length-range (suc s) n)
+length_range s zero = refl
+length_range s (suc n) = ap suc (length_range (suc s) n)
 
 -- the last of a run
 pub range_more : (s n : ℕ) → range s (suc n) ≡ range s n ++ ((s + n) ∷ [])
@@ -87,7 +87,7 @@ unfolding cat
 run_more f t =
     let z : 0 + t ≡ t = omega arith in
     ap (cat f) (range_more 0 t ∙ ap (λ (k : ℕ). range 0 t ++ (k ∷ [])) z)
-    ∙ cat-append f (range 0 t) (t ∷ [])
+    ∙ cat_append f (range 0 t) (t ∷ [])
     ∙ ap (λ (l : List ℕ). cat f (range 0 t) ++ l) (append-nil (f t))
 
 -- a run in two parts
@@ -104,13 +104,13 @@ range_split s (suc n) m =
     shift : suc s + n ≡ s + suc n
     shift = omega arith
 
-pub get_or-range : (s n i : ℕ) → i < n → get_or (range s n) i 0 ≡ s + i
+pub get_or_range : (s n i : ℕ) → i < n → get_or (range s n) i 0 ≡ s + i
 unfolding range
-get_or-range s zero i h = absurd (omega arith)
-get_or-range s (suc n) zero h = omega arith
-get_or-range s (suc n) (suc i) h =
+get_or_range s zero i h = absurd (omega arith)
+get_or_range s (suc n) zero h = omega arith
+get_or_range s (suc n) (suc i) h =
     let k : i < n = omega arith in
-    get_or-range (suc s) n i k ∙ shift
+    get_or_range (suc s) n i k ∙ shift
   where
     shift : suc s + i ≡ s + suc i
     shift = omega arith

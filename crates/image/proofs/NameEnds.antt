@@ -25,9 +25,9 @@ unfolding names_from
 length_from bytes s [] = refl
 length_from bytes s (e ∷ es) = ap suc (length_from bytes e es)
 
-pub length-names : (bytes ends : List ℕ) → length (names bytes ends) ≡ length ends
+pub length_names : (bytes ends : List ℕ) → length (names bytes ends) ≡ length ends
 unfolding names
-length-names bytes ends = length_from bytes 0 ends
+length_names bytes ends = length_from bytes 0 ends
 
 begins_of : (ends : List ℕ) (i : ℕ) → begins 0 ends i ≡ begin_of ends i
 begins_of ends zero = refl
@@ -36,9 +36,9 @@ begins_of ends (suc i) =
     ap (λ (k : ℕ). get_or ends k 0) (sym e)
     ∙ sym (ap (λ (t : Bool). cond t 0 (get_or ends (suc i - 1) 0)) (ne_eqb (suc i) 0 (λ z. omega arith)))
 
-pub nth-name : (bytes ends : List ℕ) (i : ℕ) → i < length ends → nth (names bytes ends) i ≡ between bytes (begin_of ends i) (get_or ends i 0)
+pub nth_name : (bytes ends : List ℕ) (i : ℕ) → i < length ends → nth (names bytes ends) i ≡ between bytes (begin_of ends i) (get_or ends i 0)
 unfolding names
-nth-name bytes ends i h = nth_from bytes 0 ends i h ∙ ap (λ (s : ℕ). between bytes s (get_or ends i 0)) (begins_of ends i)
+nth_name bytes ends i h = nth_from bytes 0 ends i h ∙ ap (λ (s : ℕ). between bytes s (get_or ends i 0)) (begins_of ends i)
 
 -- ends that neither fall nor pass the bytes
 pub record Placed (size s e : ℕ) : Type 0 where

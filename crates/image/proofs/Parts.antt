@@ -5,9 +5,9 @@ use Rattle.image.specs.Tables.{Bucket, empty}
 use Rattle.image.specs.Image.{Entry, Placed, head_size, entry_bytes, placed, count, bucket_bytes, table, table_bytes, entries_before}
 use Rattle.image.specs.Image.{table_offset, table_row, table_rows, tables, back_word, back_words, back_size_of, entries_end, image_size, head_words, image}
 use Rattle.image.specs.declared.Mode.{Mode}
-use Rattle.image.proofs.Words.{length-le32}
-use Rattle.image.proofs.Lists.{length-cat, length-cat_const, length-range, range_at, get_or-range}
-use Rattle.image.proofs.Sizes.{length_entries, length-placed, length-bucket_bytes, length-table, before-suc, before-all, length-tables_to, length-tables}
+use Rattle.image.proofs.Words.{length_le32}
+use Rattle.image.proofs.Lists.{length_cat, length_cat_const, length_range, range_at, get_or_range}
+use Rattle.image.proofs.Sizes.{length_entries, length_placed, length-bucket_bytes, length_table, before_suc, before_all, length_tables_to, length_tables}
 use Rattle.image.proofs.Sizes.{length-head_words, length-table_row, length-table_rows, length-table_bytes}
 use Rattle.image.proofs.At.{At, at_whole, at_same, at_equal, at_left, at_right, at_word, at_second, at_after, at_part}
 
@@ -87,8 +87,8 @@ module _ (mode : Mode) (es : List Entry) where
             length-head_words mode es,
             length-table_rows (entries_end es) (placed_in es),
             length_entries es,
-            length-tables (placed_in es),
-            length-placed head_size es,
+            length_tables (placed_in es),
+            length_placed head_size es,
           )
 
 -- ---- how far the tables go
@@ -97,7 +97,7 @@ pub before_mono : (ps : List Placed) (t d : ℕ) → entries_before t ps ≤ ent
 before_mono ps t zero = let e : t ≡ t + 0 = omega arith in rw (← e) (omega arith)
 before_mono ps t (suc d) =
     let e : suc (t + d) ≡ t + suc d = omega arith in
-    let s = before-suc (t + d) ps in
+    let s = before_suc (t + d) ps in
     let h = before_mono ps t d in
     rw (← e) (omega arith)
 
@@ -105,7 +105,7 @@ pub before_most : (ps : List Placed) (t : ℕ) → t < 256 → entries_before t 
 before_most ps t h =
     let e : suc t + (255 - t) ≡ 256 = omega arith in
     let m : entries_before (suc t) ps ≤ entries_before 256 ps = rw e at (before_mono ps (suc t) (255 - t)) in
-    omega (arith, before-suc t ps, before-all ps)
+    omega (arith, before_suc t ps, before_all ps)
 
 -- ---- the words of the tables' rows, in any bytes where they stand
 
@@ -114,8 +114,8 @@ module _ {img : List ℕ} (end : ℕ) (ps : List Placed) (rows : At img 24 (tabl
   unfolding table_rows
   row_at t h =
       let e : 0 + t ≡ t = omega arith in
-      at_equal (ap (table_row end ps) (get_or-range 0 256 t h ∙ e))
-      (at_part (table_row end ps) 8 (length-table_row end ps) 24 (range 0 256) t 0 rows (rw (length-range 0 256) h))
+      at_equal (ap (table_row end ps) (get_or_range 0 256 t h ∙ e))
+      (at_part (table_row end ps) 8 (length-table_row end ps) 24 (range 0 256) t 0 rows (rw (length_range 0 256) h))
 
   offset_below : (t : ℕ) → t < 256 → table_offset end ps t < 2 ^ 32
   unfolding table_offset
@@ -147,18 +147,18 @@ buckets_of of t = cat bucket_bytes (of t)
 
 module _ (ps : List Placed) (of : ℕ → List Bucket) (sized : (t : ℕ) → length (of t) ≡ 2 * count t ps) where
   length_buckets_of : (t : ℕ) → length (buckets_of of t) ≡ length (table_bytes ps t)
-  length_buckets_of t = omega (arith, length-cat bucket_bytes 8 length-bucket_bytes (of t), sized t, length-table_bytes ps t)
+  length_buckets_of t = omega (arith, length_cat bucket_bytes 8 length-bucket_bytes (of t), sized t, length-table_bytes ps t)
 
   pub length_tables_of_to : (t : ℕ) → length (cat (buckets_of of) (range 0 t)) ≡ 16 * entries_before t ps
-  length_tables_of_to t = length-cat_const (buckets_of of) (table_bytes ps) length_buckets_of (range 0 t) ∙ length-tables_to t ps
+  length_tables_of_to t = length_cat_const (buckets_of of) (table_bytes ps) length_buckets_of (range 0 t) ∙ length_tables_to t ps
 
   pub length_tables_of : length (cat (buckets_of of) (range 0 256)) ≡ 16 * length ps
-  length_tables_of = length_tables_of_to 256 ∙ ap (λ (n : ℕ). 16 * n) (before-all ps)
+  length_tables_of = length_tables_of_to 256 ∙ ap (λ (n : ℕ). 16 * n) (before_all ps)
 
   -- bucket k of table t
-  pub bucket-of : {img : List ℕ} (o : ℕ) → At img o (cat (buckets_of of) (range 0 256)) → (t k : ℕ) → t < 256 → k < 2 * count t ps
+  pub bucket_of_lem : {img : List ℕ} (o : ℕ) → At img o (cat (buckets_of of) (range 0 256)) → (t k : ℕ) → t < 256 → k < 2 * count t ps
       → At img (o + 16 * entries_before t ps + 8 * k) (bucket_bytes (get_or (of t) k empty))
-  bucket-of o a t k h i =
+  bucket_of_lem o a t k h i =
       at_part bucket_bytes 8 length-bucket_bytes (o + 16 * entries_before t ps) (of t) k empty
       (at_same (ap (λ (n : ℕ). o + n) (length_tables_of_to t))
       (at_after (buckets_of of) o (range 0 t) t (range (suc t) (256 - suc t)) (at_equal (ap (cat (buckets_of of)) (range_at 256 t h)) a)))
@@ -168,29 +168,29 @@ module _ (ps : List Placed) (of : ℕ → List Bucket) (sized : (t : ℕ) → le
 
 module _ (mode : Mode) (es : List Entry) (fits : image_size mode es ≤ 4294967295) where
   pub most : (t : ℕ) → t < 256 → entries_before t (placed_in es) + count t (placed_in es) ≤ length es
-  most t h = omega (arith, before_most (placed_in es) t h, length-placed head_size es)
+  most t h = omega (arith, before_most (placed_in es) t h, length_placed head_size es)
 
   tables_fit : entries_end es + 16 * length (placed_in es) ≤ 4294967295
-  tables_fit = omega (arith, length-placed head_size es)
+  tables_fit = omega (arith, length_placed head_size es)
 
-  pub table_at-image : (t : ℕ) → t < 256 → word (image mode es) (24 + 8 * t) ≡ table_offset (entries_end es) (placed_in es) t
-  table_at-image = offset_word (entries_end es) (placed_in es) (rows_at mode es) tables_fit
+  pub table_at_image : (t : ℕ) → t < 256 → word (image mode es) (24 + 8 * t) ≡ table_offset (entries_end es) (placed_in es) t
+  table_at_image = offset_word (entries_end es) (placed_in es) (rows_at mode es) tables_fit
 
-  pub bucket_number-image : (t : ℕ) → t < 256 → word (image mode es) (28 + 8 * t) ≡ 2 * count t (placed_in es)
-  bucket_number-image = number_word (entries_end es) (placed_in es) (rows_at mode es) tables_fit
+  pub bucket_number_image : (t : ℕ) → t < 256 → word (image mode es) (28 + 8 * t) ≡ 2 * count t (placed_in es)
+  bucket_number_image = number_word (entries_end es) (placed_in es) (rows_at mode es) tables_fit
 
   -- the buckets of table t
-  pub bucket-at : (t k : ℕ) → t < 256 → k < 2 * count t (placed_in es)
+  pub bucket_at_lem : (t k : ℕ) → t < 256 → k < 2 * count t (placed_in es)
       → At (image mode es) (entries_end es + 16 * entries_before t (placed_in es) + 8 * k) (bucket_bytes (get_or (table t (placed_in es)) k empty))
   unfolding tables table_bytes
-  bucket-at =
-      bucket-of (placed_in es) (λ (t : ℕ). table t (placed_in es)) (λ t. length-table t (placed_in es)) (entries_end es) (tables_at mode es)
+  bucket_at_lem =
+      bucket_of_lem (placed_in es) (λ (t : ℕ). table t (placed_in es)) (λ t. length_table t (placed_in es)) (entries_end es) (tables_at mode es)
 
   -- the back words
   pub back_word_at : (i : ℕ) → i < back_size_of mode es → At (image mode es) (entries_end es + 16 * length es + 4 * i) (le32 (back_word (placed_in es) i))
   unfolding back_words
   back_word_at i h =
       let e : 0 + i ≡ i = omega arith in
-      at_equal (ap (λ (k : ℕ). le32 (back_word (placed_in es) k)) (get_or-range 0 (back_size_of mode es) i h ∙ e))
-      (at_part (λ (k : ℕ). le32 (back_word (placed_in es) k)) 4 (λ k. length-le32 (back_word (placed_in es) k)) (entries_end es + 16 * length es)
-      (range 0 (back_size_of mode es)) i 0 (back_words_at mode es) (rw (length-range 0 (back_size_of mode es)) h))
+      at_equal (ap (λ (k : ℕ). le32 (back_word (placed_in es) k)) (get_or_range 0 (back_size_of mode es) i h ∙ e))
+      (at_part (λ (k : ℕ). le32 (back_word (placed_in es) k)) 4 (λ k. length_le32 (back_word (placed_in es) k)) (entries_end es + 16 * length es)
+      (range 0 (back_size_of mode es)) i 0 (back_words_at mode es) (rw (length_range 0 (back_size_of mode es)) h))

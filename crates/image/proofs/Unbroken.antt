@@ -12,8 +12,8 @@ module _ (image : List ℕ) (at : ℕ) where
   pub broken_short : length image < at + 8 → true ≡ broken image at
   broken_short h = simp (lt-ltb (length image) (at + 8) h)
 
-  pub broken-none : (w : ℕ) → at + 8 ≤ length image → w ≡ word image (at + 4) → w ≡ 0 → true ≡ broken image at
-  broken-none w h e z = simp (le-ltb (length image) (at + 8) h, eq-eqb (word image (at + 4)) 0 (sym e ∙ z))
+  pub broken_none : (w : ℕ) → at + 8 ≤ length image → w ≡ word image (at + 4) → w ≡ 0 → true ≡ broken image at
+  broken_none w h e z = simp (le-ltb (length image) (at + 8) h, eq-eqb (word image (at + 4)) 0 (sym e ∙ z))
 
   pub broken_name : (w : ℕ) → at + 8 ≤ length image → w ≡ word image (at + 4) → (w ≡ 0 → ⊥)
       → ltb (length image) (at + 8 + (w - 1)) ≡ broken image at
@@ -31,7 +31,7 @@ module _ (image : List ℕ) (at : ℕ) where
       → LessOne w r → ltb (length image - (at + 8)) r ≡ broken image at
   broken_rest w r h l e less =
       elim (ℕ_discrete w 0) [
-        | yes q ↦ rw (less.none q) (lt-ltb (length image - (at + 8)) 18446744073709551615 (omega (arith, l)) ∙ broken-none w h e q)
+        | yes q ↦ rw (less.none q) (lt-ltb (length image - (at + 8)) 18446744073709551615 (omega (arith, l)) ∙ broken_none w h e q)
         | no q ↦ rw (less.some (omega (arith, q))) (shifted (w - 1) h ∙ broken_name w h e q)
       ]
 

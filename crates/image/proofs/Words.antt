@@ -6,9 +6,9 @@ use lib.Seq.{sets, set_out}
 use Rattle.image.specs.Bytes.{word, le32}
 
 -- the word at o is the first of what is dropped to there
-pub word-drop : (s : List ℕ) (n o : ℕ) → word (drop n s) o ≡ word s (n + o)
+pub word_drop : (s : List ℕ) (n o : ℕ) → word (drop n s) o ≡ word s (n + o)
 unfolding word
-word-drop s n o =
+word_drop s n o =
     omega
     (arith, get_or-drop n s o 0, get_or-drop n s (o + 1) 0, get_or-drop n s (o + 2) 0, get_or-drop n s (o + 3) 0, shift 1, shift 2, shift 3)
   where
@@ -26,9 +26,9 @@ joined : (w : ℕ) → w % 256 + w / 256 * 256 ≡ w
 joined w = omega arith
 
 -- a word reads back
-pub word-le32 : (w : ℕ) (rest : List ℕ) → w < 2 ^ 32 → word (le32 w ++ rest) 0 ≡ w
+pub word_le32 : (w : ℕ) (rest : List ℕ) → w < 2 ^ 32 → word (le32 w ++ rest) 0 ≡ w
 unfolding word le32
-word-le32 w rest h =
+word_le32 w rest h =
     let two : w / 256 / 256 ≡ w / 65536 = div-div-eq-div-mul w 256 256 in
     let three : w / 65536 / 256 ≡ w / 16777216 = div-div-eq-div-mul w 65536 256 in
     let j2 : w / 65536 % 256 + w / 16777216 * 256 ≡ w / 65536 = rw three at (joined (w / 65536)) in
@@ -40,15 +40,15 @@ word-le32 w rest h =
     digits : (a b c d x y z w : ℕ) → a + x * 256 ≡ w → b + y * 256 ≡ x → c + z * 256 ≡ y → d ≡ z → a + b * 256 + c * 65536 + d * 16777216 ≡ w
     digits a b c d x y z w p q r t = omega arith
 
-pub length-le32 : (w : ℕ) → length (le32 w) ≡ 4
+pub length_le32 : (w : ℕ) → length (le32 w) ≡ 4
 unfolding le32
-length-le32 w = refl
+length_le32 w = refl
 
 -- four bytes are those of their word
-pub le32-bytes : (a b c d : ℕ) → a < 256 → b < 256 → c < 256 → d < 256
+pub le32_bytes : (a b c d : ℕ) → a < 256 → b < 256 → c < 256 → d < 256
     → le32 (a + b * 256 + c * 65536 + d * 16777216) ≡ a ∷ b ∷ c ∷ d ∷ []
 unfolding le32
-le32-bytes a b c d ha hb hc hd =
+le32_bytes a b c d ha hb hc hd =
     let w = a + b * 256 + c * 65536 + d * 16777216 in
     let x = b + (c + d * 256) * 256 in
     let e : w ≡ a + x * 256 = omega arith in

@@ -28,14 +28,14 @@ module _ (s : List ℕ) (i j : ℕ) (e : i + 1 ≡ j) (p : i < length s) where
   before_further h = rw (← e, add-one, drop-cons s i 0 p, ne_eqb (get_or s i 0) 0 h)
 
 -- two joined parts have a zero byte where one of them has
-zero-append : (a b : List ℕ) → has_zero (a ++ b) ≡ (has_zero a || has_zero b)
+zero_append : (a b : List ℕ) → has_zero (a ++ b) ≡ (has_zero a || has_zero b)
 unfolding has_zero
-zero-append [] b = refl
-zero-append (x ∷ a) b = ap (λ (t : Bool). eqb x 0 || t) (zero-append a b) ∙ sym (or_assoc (eqb x 0) (has_zero a) (has_zero b))
+zero_append [] b = refl
+zero_append (x ∷ a) b = ap (λ (t : Bool). eqb x 0 || t) (zero_append a b) ∙ sym (or_assoc (eqb x 0) (has_zero a) (has_zero b))
 
 -- the first k bytes and the others
 zero_parts : (s : List ℕ) (k : ℕ) → has_zero s ≡ (has_zero (take k s) || has_zero (drop k s))
-zero_parts s k = ap has_zero (sym (take-append-drop k s)) ∙ zero-append (take k s) (drop k s)
+zero_parts s k = ap has_zero (sym (take-append-drop k s)) ∙ zero_append (take k s) (drop k s)
 
 -- the same of the bytes from i on
 zero_split : (s : List ℕ) (i k : ℕ) → has_zero (drop i s) ≡ (has_zero (take k (drop i s)) || has_zero (drop (i + k) s))
@@ -73,12 +73,12 @@ pub zero_eight : (s : List ℕ) (i : ℕ) (a b : Bool) → a ≡ has_zero (take 
     → (a || b) ≡ has_zero (take 8 (drop i s))
 zero_eight s i a b ea eb =
     ap₂ (λ (x y : Bool). x || y) ea (eb ∙ ap (λ (l : List ℕ). has_zero (take 4 l)) (sym (drop-drop 4 i s)))
-    ∙ sym (zero-append (take 4 (drop i s)) (take 4 (drop 4 (drop i s))))
+    ∙ sym (zero_append (take 4 (drop i s)) (take 4 (drop 4 (drop i s))))
     ∙ ap has_zero (sym (take-add 4 4 (drop i s)))
 
 -- the last k bytes are all from there on
-pub zero-last : (s : List ℕ) (k : ℕ) → k ≤ length s → has_zero (take k (drop (length s - k) s)) ≡ has_zero (drop (length s - k) s)
-zero-last s k p =
+pub zero_last : (s : List ℕ) (k : ℕ) → k ≤ length s → has_zero (take k (drop (length s - k) s)) ≡ has_zero (drop (length s - k) s)
+zero_last s k p =
     let l = length-drop (length s - k) s in
     ap has_zero (take_all k (drop (length s - k) s) (omega arith))
 
@@ -136,12 +136,12 @@ zero_ends s k a b p q ea eb = either_decides a ea
 
     either_decides : (t : Bool) → t ≡ has_zero (take k s) → (t || b) ≡ has_zero s
     either_decides true e = sym (parts true e)
-    either_decides false e = eb ∙ zero-last s k p ∙ zero_overlap s (length s - k) k (omega arith) (sym (parts false e))
+    either_decides false e = eb ∙ zero_last s k p ∙ zero_overlap s (length s - k) k (omega arith) (sym (parts false e))
 
 -- nothing is left to precede a zero byte
-pub before-none : (s : List ℕ) (i : ℕ) → length s ≤ i → length (before_zero (drop i s)) ≡ 0
+pub before_none : (s : List ℕ) (i : ℕ) → length s ≤ i → length (before_zero (drop i s)) ≡ 0
 unfolding before_zero
-before-none s i h = rw (drop_of_length-le s {i = i} h)
+before_none s i h = rw (drop_of_length-le s {i = i} h)
 
 -- the panel's reading is a front of the name, has no zero byte, and is the longest such front
 pub before_front : (s : List ℕ) → before_zero s ≡ take (length (before_zero s)) s
@@ -194,10 +194,10 @@ readings_same (x ∷ xs) = same_with_first (eqb x 0) (readings_same xs)
     same_with_first false rest = ap (λ (b : Bool). b && same (before_zero xs) xs) (eq-eqb x x refl) ∙ rest
 
 -- it is as long as the name exactly where the name has none
-pub before-all : (s : List ℕ) → has_zero s ≡ false → length (before_zero s) ≡ length s
+pub before_all : (s : List ℕ) → has_zero s ≡ false → length (before_zero s) ≡ length s
 unfolding before_zero has_zero
-before-all [] h = refl
-before-all (x ∷ xs) h = all_with_first (eqb x 0) h (before-all xs)
+before_all [] h = refl
+before_all (x ∷ xs) h = all_with_first (eqb x 0) h (before_all xs)
   where
     all_with_first : (t : Bool) → (t || has_zero xs) ≡ false → (has_zero xs ≡ false → length (before_zero xs) ≡ length xs)
         → length (cond t [] (x ∷ before_zero xs)) ≡ length (x ∷ xs)
@@ -220,4 +220,4 @@ before_test s = by_zero_byte (has_zero s) refl
   where
     by_zero_byte : (t : Bool) → has_zero s ≡ t → ltb (length (before_zero s)) (length s) ≡ has_zero s
     by_zero_byte true e = lt-ltb (length (before_zero s)) (length s) (before_less s e) ∙ sym e
-    by_zero_byte false e = le-ltb (length (before_zero s)) (length s) (omega (arith, before-all s e)) ∙ sym e
+    by_zero_byte false e = le-ltb (length (before_zero s)) (length s) (omega (arith, before_all s e)) ∙ sym e

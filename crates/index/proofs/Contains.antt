@@ -14,16 +14,16 @@ use Rattle.image.specs.Bytes.{same, cat}
 use Rattle.image.specs.Tables.{Bucket}
 use Rattle.image.specs.Image.{Entry, Placed, head_size, placed, bucket_of, contains_name, entry_bytes, entry_size, has_name}
 use Rattle.image.proofs.Bools.{false_not_true}
-use Rattle.image.proofs.Buckets.{filled-all}
+use Rattle.image.proofs.Buckets.{filled_all}
 use Rattle.image.proofs.EntryArea.{AllBytes}
-use Rattle.image.proofs.AllOfList.{All, all_map, all_both, all-image}
+use Rattle.image.proofs.AllOfList.{All, all_map, all_both, all_image}
 use Rattle.image.proofs.Equal.{same_lengths, same_true}
 use Rattle.image.proofs.At.{At}
 use Rattle.image.proofs.EntryAt.{EntryAt, placed_at, all_placed}
 use Rattle.reader.specs.Lookup.{Hit, hit, pass}
 use Rattle.lookup_laws.proofs.EntriesOf.{names_short}
 use Rattle.lookup_laws.specs.Steps.HasMatch.{has_match}
-use Rattle.lookup_laws.proofs.SlotSearch.{none-empty, some_empty, none_equal}
+use Rattle.lookup_laws.proofs.SlotSearch.{none_empty, some_empty, none_equal}
 use Rattle.lookup_laws.proofs.TableContents.{NotEmpty}
 use Rattle.lookup_laws.proofs.EntryProbe.{probe_entry_at}
 use Rattle.writer.specs.State.{State}
@@ -159,8 +159,8 @@ module _ {s : State} {words : List ℕ} (bytes : AllBytes s.buffer) (right : Rig
   held : (i : ℕ) → i < m → Held (slot_at words i)
   held i l =
       subst Held (sym ((right.slots off).each i l))
-      (filled-all Held m (entry_buckets es) (λ full t. absurd (full refl))
-      (all-image Held bucket_of (λ p w full t. w.1 (sym w.0 ∙ t)) (placed head_size es)
+      (filled_all Held m (entry_buckets es) (λ full t. absurd (full refl))
+      (all_image Held bucket_of (λ p w full t. w.1 (sym w.0 ∙ t)) (placed head_size es)
       (all_both (Decides name v) (λ (p : Placed). same p.entry.name name ≡ true → contains_name name es ≡ true) (placed head_size es) decided
       (has_one name v head_size es))) i)
 
@@ -181,7 +181,7 @@ module _ {s : State} {words : List ℕ} (bytes : AllBytes s.buffer) (right : Rig
             full = λ f. ne_eqb k m (λ z. omega (arith, z, o.below)) ∙ sym (lt-leb m s.writer.entries (omega (arith, stored, fewer)));
           }
       by_result (inr (inr o)) =
-          let all = none-empty (right.slots off) fit (buckets_occupied es) h o.full in
+          let all = none_empty (right.slots off) fit (buckets_occupied es) h o.full in
           record {
             found = le-ltb m k (omega (arith, o.is)) ∙ sym (none_has o.matching);
             full = λ f. eq-eqb k m o.is ∙ sym (le-leb m s.writer.entries (omega (arith, stored, all)));

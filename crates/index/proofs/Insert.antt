@@ -10,7 +10,7 @@ use Rattle.jhash.specs.NameHash.{hash_of}
 use Rattle.image.specs.Tables.{Bucket, empty, filled}
 use Rattle.image.specs.Bytes.{same}
 use Rattle.image.specs.Image.{Entry, head_size, entry_size, entries_size, placed, bucket_of}
-use Rattle.image.proofs.Sizes.{length-filled, placed-append, length-placed}
+use Rattle.image.proofs.Sizes.{length_filled, placed_append, length_placed}
 use Rattle.image.proofs.AllOfList.{All}
 use Rattle.lookup_laws.proofs.SlotSearch.{filled_next}
 use Rattle.lookup_laws.proofs.TableContents.{NotEmpty}
@@ -22,11 +22,11 @@ pub buckets_snoc : (es : List Entry) (e : Entry)
     → entry_buckets (es ++ (e ∷ [])) ≡ entry_buckets es ++ (record { hash = hash_of e.name; at = head_size + entries_size es } ∷ [])
 unfolding placed
 buckets_snoc es e =
-    ap (map bucket_of) (placed-append head_size es (e ∷ []))
+    ap (map bucket_of) (placed_append head_size es (e ∷ []))
     ∙ map-append bucket_of (placed head_size es) (placed (head_size + entries_size es) (e ∷ []))
 
 pub length_buckets : (es : List Entry) → length (entry_buckets es) ≡ length es
-length_buckets es = length-map (placed head_size es) bucket_of ∙ length-placed head_size es
+length_buckets es = length-map (placed head_size es) bucket_of ∙ length_placed head_size es
 
 pub buckets_occupied : (es : List Entry) → All NotEmpty (entry_buckets es)
 unfolding placed
@@ -70,7 +70,7 @@ module _ (words : List ℕ) {bs : List Bucket} (slots : FilledWith words bs) (b 
 
   stored_each : (j : ℕ) → j < count → Dec (j ≡ k) → slot_at stored j ≡ get_or (set (filled count bs) k b) j empty
   stored_each j l (yes e) =
-      ap (slot_at stored) e ∙ there ∙ sym (get_or-set_same (filled count bs) k b empty (omega (arith, length-filled count bs)))
+      ap (slot_at stored) e ∙ there ∙ sym (get_or-set_same (filled count bs) k b empty (omega (arith, length_filled count bs)))
       ∙ ap (λ (i : ℕ). get_or (set (filled count bs) k b) i empty) (sym e)
   stored_each j l (no e) =
       same_slot

@@ -21,7 +21,7 @@ use Rattle.lists.specs.Calls.{Call, put, close, after, answers, accepted_one, ac
 use Rattle.lists.specs.Demand3.{answers_of, after_list, accepted_puts, image_of}
 use Rattle.lists.specs.Theorems.LongerBuffer.{moved_to}
 use Rattle.lists.proofs.ListWritten.{Written}
-use Rattle.lists.proofs.ListPuts.{put-due}
+use Rattle.lists.proofs.ListPuts.{put_due_lem}
 use Rattle.lists.proofs.ListCloses.{close_accepted, close_written}
 use Rattle.lists.proofs.CallLists.{list_answers, list_accepted}
 use Rattle.index.specs.Index.{slot_count, first_empty_slot, slot_inserted, seeks, Right, indexed_refusal, after_indexed, index_refusal}
@@ -57,7 +57,7 @@ module _ {m : ℕ} {mode : Mode} {repeats : Repeats} {n : ℕ} {es : List Entry}
   unfolding indexed_refusal rule
   answer_is =
       p.answer right
-      ∙ ap₂ (λ (b : Bool) (q : ℕ). rule b q (slot_count words) s.writer.entries) (ap refuses_repeats w.repeats_is) (put-due mode repeats n es s w e)
+      ∙ ap₂ (λ (b : Bool) (q : ℕ). rule b q (slot_count words) s.writer.entries) (ap refuses_repeats w.repeats_is) (put_due_lem mode repeats n es s w e)
       ∙ ap₂ (rule (refuses_repeats repeats) (put_due mode repeats n es e)) size w.entries
 
   -- with the answer that is due without an index it leaves what a put without one does
@@ -65,7 +65,7 @@ module _ {m : ℕ} {mode : Mode} {repeats : Repeats} {n : ℕ} {es : List Entry}
   unfolding after_indexed after_put
   state_is same =
       p.leaves right
-      ∙ ap (λ (q : ℕ). cond (eqb q 0) (appended s e) s) (sym (p.answer right) ∙ answer_is ∙ same ∙ sym (put-due mode repeats n es s w e))
+      ∙ ap (λ (q : ℕ). cond (eqb q 0) (appended s e) s) (sym (p.answer right) ∙ answer_is ∙ same ∙ sym (put_due_lem mode repeats n es s w e))
 
 -- the number of slots stays
 size_kept : {s : State} {words : List ℕ} {e : Entry} {r : ℕ} {u : State} {mid : List ℕ} → PutIndexed s words e r u mid → slot_count mid ≡ slot_count words
@@ -84,7 +84,7 @@ size_kept {s} {words} {e} {r} {u} {mid} p =
 module _ (mode : Mode) (repeats : Repeats) where
   -- what the list of demand 3 that a run comes to answers and leaves
   record Comes (l : Plain) (t : State) : Type 0 where
-    same-answers : answers_of mode repeats l.buffer l.calls ≡ l.answers
+    same_answers : answers_of mode repeats l.buffer l.calls ≡ l.answers
     leaves : t ≡ after_list mode repeats l.buffer l.calls
 
   record Along (m n : ℕ) (es : List Entry) (l : Plain) (cs : List Step) (rs : List ℕ) (t : State) (words' : List ℕ) : Type 0 where
@@ -137,7 +137,7 @@ module _ (mode : Mode) (repeats : Repeats) where
   along [] m l es s words left right size word [] t words' run =
       record {
         answered = refl;
-        comes = record { same-answers = left.answers; leaves = run.0 ∙ left.state };
+        comes = record { same_answers = left.answers; leaves = run.0 ∙ left.state };
         right = subst (λ (u : State). Right u words') (sym run.0) (subst (Right s) (sym run.1) right);
       }
   along [] m l es s words left right size word (r ∷ rs) t words' run = absurd run
@@ -188,7 +188,7 @@ module _ (mode : Mode) (repeats : Repeats) where
       by_full goes is state kept false some =
           let n = length l.buffer in
           let due_is : asked ≡ due = ap (λ (b : Bool). cond b 24 due) some in
-          let put_is : r ≡ put_refusal s e = is ∙ due_is ∙ sym (put-due mode repeats n es s (left_written mode repeats left) e) in
+          let put_is : r ≡ put_refusal s e = is ∙ due_is ∙ sym (put_due_lem mode repeats n es s (left_written mode repeats left) e) in
           step (call (put e)) r (kept_call l (put e) (λ z. omega (arith, z, is, due_is, due_below mode repeats n es (put e))))
           (ap₂ (λ (q x : ℕ). cons q (due_indexed m mode repeats n (es ++ accepted_one (put e) x) cs)) is (sym due_is))
           (goes (more l (put e) r) (accepted_after mode repeats n es (put e))
@@ -244,10 +244,10 @@ module _ (mode : Mode) (repeats : Repeats) where
         let more = longer_list cs (accepted_after mode repeats n es c) in
         ((λ off. omega (arith, more, few off)), enough_calls m cs (accepted_after mode repeats n es c) few)
 
-    length-due : (m : ℕ) (cs : List Call) (es : List Entry) → length (due_indexed m mode repeats n es (map call cs)) ≡ length cs
+    length_due : (m : ℕ) (cs : List Call) (es : List Entry) → length (due_indexed m mode repeats n es (map call cs)) ≡ length cs
     unfolding due_indexed
-    length-due m [] es = refl
-    length-due m (c ∷ cs) es = omega (arith, length-due m cs (es ++ accepted_one c (due_to_indexed m mode repeats n es c)))
+    length_due m [] es = refl
+    length_due m (c ∷ cs) es = omega (arith, length_due m cs (es ++ accepted_one c (due_to_indexed m mode repeats n es c)))
 
     -- once every slot is taken
     full_due : (m : ℕ) (es : List Entry) → refuses_repeats repeats ≡ true → m ≤ length es → (c : Call)
@@ -301,17 +301,17 @@ module _ (mode : Mode) (repeats : Repeats) (buffer words : List ℕ) (rs : List 
   abbrev none_yet : Plain
   none_yet = record { buffer = buffer; calls = []; answers = [] }
 
-  fresh-left : Left mode repeats none_yet [] (fresh mode repeats buffer)
+  fresh_left : Left mode repeats none_yet [] (fresh mode repeats buffer)
   unfolding after answers accepted accepted_from
-  fresh-left = record { state = refl; answers = refl; room = room; word = tt; puts = refl }
+  fresh_left = record { state = refl; answers = refl; room = room; word = tt; puts = refl }
 
   by_index : (cs : List Step) → WordIds mode (calls_of cs) → Run (fresh mode repeats buffer) words cs rs t words'
       → RunByIndex mode repeats buffer words cs rs t words'
   by_index cs word run =
-      let a = along mode repeats cs (slot_count words) none_yet [] (fresh mode repeats buffer) words fresh-left right refl word rs t words' run in
+      let a = along mode repeats cs (slot_count words) none_yet [] (fresh mode repeats buffer) words fresh_left right refl word rs t words' run in
       record {
         answered = a.answered;
-        same-answers = a.comes.same-answers;
+        same_answers = a.comes.same_answers;
         leaves = a.comes.leaves;
         right = a.right;
         enough = λ few. subst NoneFull (sym a.answered) (enough_none mode repeats cs (slot_count words) (length buffer) [] few);
@@ -326,10 +326,10 @@ module _ (mode : Mode) (repeats : Repeats) (buffer words : List ℕ) (rs : List 
       let some : refuses_repeats repeats ≡ true → length (accepted_from mode repeats n [] cs) ≤ slot_count words =
       λ off. omega (arith, few off, ap length (list_accepted mode repeats buffer room cs word)) in
       let none = a.enough (enough_calls mode repeats n (slot_count words) cs [] some) in
-      let whole = plain_calls none_yet cs rs (ap length a.answered ∙ length-due mode repeats n (slot_count words) cs []) none in
+      let whole = plain_calls none_yet cs rs (ap length a.answered ∙ length_due mode repeats n (slot_count words) cs []) none in
       let left : t ≡ after_list mode repeats buffer cs = a.leaves ∙ ap (λ (l : Plain). after_list mode repeats l.buffer l.calls) whole in
       let answers_are : rs ≡ answers_of mode repeats buffer cs =
-      sym (sym (ap (λ (l : Plain). answers_of mode repeats l.buffer l.calls) whole) ∙ a.same-answers ∙ ap (λ (l : Plain). l.answers) whole) in
+      sym (sym (ap (λ (l : Plain). answers_of mode repeats l.buffer l.calls) whole) ∙ a.same_answers ∙ ap (λ (l : Plain). l.answers) whole) in
       record {
         due_is = answers_are ∙ list_answers mode repeats buffer room cs word;
         answers = answers_are;

@@ -13,12 +13,12 @@ use Rattle.image.specs.Tables.{Bucket, insert_all, filled}
 use Rattle.image.specs.Image.{Entry, head_size, entry_size, entries_size, placed, back_in, back_size}
 use Rattle.image.specs.Stored.{first_entry, after_first, whole, entries_in, between}
 use Rattle.image.specs.Steps.EntryLength.{whole_length}
-use Rattle.image.proofs.Between.{Front, front, not-whole, length-between}
+use Rattle.image.proofs.Between.{Front, front, not_whole, length_between}
 use Rattle.image.proofs.Bools.{false_not_true, and_first}
 use Rattle.image.proofs.Buckets.{get_or_empties}
-use Rattle.image.proofs.EntryWalk.{whole_rest, first-name, entries_rest}
+use Rattle.image.proofs.EntryWalk.{whole_rest, first_name_lem, entries_rest}
 use Rattle.image.proofs.Sizes.{entries_size-append}
-use Rattle.lookup_laws.proofs.SlotSearch.{none-empty}
+use Rattle.lookup_laws.proofs.SlotSearch.{none_empty}
 use Rattle.writer.specs.declared.CQDBWriter.{CQDBWriter}
 use Rattle.writer.specs.State.{State, state_with, finished_size, counts_agree}
 use Rattle.writer.specs.Close.{entry_area, recorded, close_refusal}
@@ -75,11 +75,11 @@ module _ {buf : List ℕ} {end entries : ℕ} {words₀ : List ℕ} (pre : FillP
     l = omega arith
 
     -- the entry is whole
-    pub not-broken : (n : ℕ) → n ≡ whole_length (between buf at end) → n ≡ 0 → ⊥
+    pub not_broken : (n : ℕ) → n ≡ whole_length (between buf at end) → n ≡ 0 → ⊥
     unfolding whole
-    not-broken n e z =
+    not_broken n e z =
         false_not_true
-        (sym (ap (λ (b : Bool). b && whole (left - 1) (after_first (between buf at end))) (not-whole (between buf at end) (sym z ∙ e)))
+        (sym (ap (λ (b : Bool). b && whole (left - 1) (after_first (between buf at end))) (not_whole (between buf at end) (sym z ∙ e)))
         ∙ sym (ap (λ (q : ℕ). whole q (between buf at end)) l)
         ∙ f.entire)
 
@@ -94,26 +94,26 @@ module _ {buf : List ℕ} {end entries : ℕ} {words₀ : List ℕ} (pre : FillP
         not_full (inl o) = absurd (false_not_true (sym (never_matches (slot_at words) h (slot_sequence words h)) ∙ o.matching))
         not_full (inr (inl o)) = o
         not_full (inr (inr o)) =
-            absurd (omega (arith, fewer, none-empty f.slots (omega (arith, fewer)) (buckets_occupied f.done) h o.full))
+            absurd (omega (arith, fewer, none_empty f.slots (omega (arith, fewer)) (buckets_occupied f.done) h o.full))
 
     module _ {n : ℕ} {name : List ℕ} {h : ℕ} (x : EntryRead buf at end n name h) where
       fr : Front (between buf at end) n
-      fr = front (between buf at end) n x.is (not-broken n x.is)
+      fr = front (between buf at end) n x.is (not_broken n x.is)
 
       abbrev first : Entry
       first = first_entry (between buf at end)
 
-      is_name : (first_entry (between buf at end)).name ≡ name
-      is_name = first-name buf at end n (left - 1) f.inside pre.inside fr ∙ sym x.named
+      is_name_lem : (first_entry (between buf at end)).name ≡ name
+      is_name_lem = first_name_lem buf at end n (left - 1) f.inside pre.inside fr ∙ sym x.named
 
       size_is : entry_size (first_entry (between buf at end)) ≡ 8 + n
-      size_is = omega (arith, ap length is_name, x.sized, fr.some)
+      size_is = omega (arith, ap length is_name_lem, x.sized, fr.some)
 
       slots_more : {k : ℕ} → k ≡ probe_slots words h never
           → FilledWith (slot_stored words k h at) (entry_buckets (f.done ++ (first_entry (between buf at end) ∷ [])))
       slots_more {k} e =
           subst (FilledWith (slot_stored words k h at))
-          (ap (λ (b : Bucket). entry_buckets f.done ++ (b ∷ [])) (same_slot (x.hash ∙ ap hash_of (sym is_name)) f.place)
+          (ap (λ (b : Bucket). entry_buckets f.done ++ (b ∷ [])) (same_slot (x.hash ∙ ap hash_of (sym is_name_lem)) f.place)
           ∙ sym (buckets_snoc f.done first))
           (filled_stored words f.slots (record { hash = h; at = at }) k (empty_slot k h e).0 (empty_slot k h e).1)
 
@@ -121,7 +121,7 @@ module _ {buf : List ℕ} {end entries : ℕ} {words₀ : List ℕ} (pre : FillP
       unfolding entries_size
       filling_turn {k} e =
           record {
-            inside = omega (arith, fr.inside, length-between buf at end f.inside pre.inside, f.inside);
+            inside = omega (arith, fr.inside, length_between buf at end f.inside pre.inside, f.inside);
             entire =
                 sym (whole_rest buf at end n (left - 1) f.inside pre.inside fr)
                 ∙ ap (λ (q : ℕ). whole q (between buf at end)) (sym l)

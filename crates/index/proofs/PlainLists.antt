@@ -13,7 +13,7 @@ use Rattle.lists.specs.Calls.{accepted, due, due_from, WordId, WordIds}
 use Rattle.lists.specs.Demand3.{answers_of, after_list}
 use Rattle.lists.specs.Theorems.LongerBuffer.{moved_to, Longer}
 use Rattle.lists.proofs.ListWritten.{Written}
-use Rattle.lists.proofs.CallLists.{after-append, accepted-append, accepted_by_due, list_answers, list_accepted, list_written}
+use Rattle.lists.proofs.CallLists.{after_append, accepted_append, accepted_by_due, list_answers, list_accepted, list_written}
 use Rattle.lists.proofs.PutsAgain.{Again, again, again_accepted, again_there, due_longer, words_again}
 use Rattle.lists.proofs.LongerBuffer.{longer_buffer}
 use Rattle.index.specs.Theorems.ListsByIndex.{grow, Plain, plain_after}
@@ -23,10 +23,10 @@ cons r rs = r ∷ rs
 
 -- ---- one call more, and a longer buffer
 
-answers-append : (s : State) (cs ds : List Call) → answers s (cs ++ ds) ≡ answers s cs ++ answers (after s cs) ds
+answers_append : (s : State) (cs ds : List Call) → answers s (cs ++ ds) ≡ answers s cs ++ answers (after s cs) ds
 unfolding answers after
-answers-append s [] ds = refl
-answers-append s (c ∷ cs) ds = ap (λ (rs : List ℕ). answer s c ∷ rs) (answers-append (after_call s c) cs ds)
+answers_append s [] ds = refl
+answers_append s (c ∷ cs) ds = ap (λ (rs : List ℕ). answer s c ∷ rs) (answers_append (after_call s c) cs ds)
 
 words_append : (mode : Mode) (cs ds : List Call) → WordIds mode cs → WordIds mode ds → WordIds mode (cs ++ ds)
 words_append mode [] ds first second = second
@@ -69,15 +69,15 @@ module _ (mode : Mode) (repeats : Repeats) where
     unfolding after answers accepted accepted_from
     left_call c r is word =
         record {
-          state = ap (λ (x : State). after_call x c) left.state ∙ sym (after-append (fresh mode repeats l.buffer) l.calls (c ∷ []));
+          state = ap (λ (x : State). after_call x c) left.state ∙ sym (after_append (fresh mode repeats l.buffer) l.calls (c ∷ []));
           answers =
-              answers-append (fresh mode repeats l.buffer) l.calls (c ∷ [])
+              answers_append (fresh mode repeats l.buffer) l.calls (c ∷ [])
               ∙ ap₂ (λ (rs qs : List ℕ). rs ++ qs) left.answers
               (ap (λ (q : ℕ). cons q []) (ap (λ (x : State). answer x c) (sym left.state) ∙ sym is));
           room = left.room;
           word = words_append mode l.calls (c ∷ []) left.word (word, tt);
           puts =
-              accepted-append mode repeats n [] l.calls (c ∷ []) ∙ ap (λ (fs : List Entry). accepted_after mode repeats n fs c) left.puts;
+              accepted_append mode repeats n [] l.calls (c ∷ []) ∙ ap (λ (fs : List Entry). accepted_after mode repeats n fs c) left.puts;
         }
 
     accepted_are : accepted_by l.calls l.answers ≡ es

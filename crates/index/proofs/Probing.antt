@@ -10,7 +10,7 @@ use mathlib.Core.Logic.{◌⊎◌, inl, inr}
 use borrow.Author.Tests.{eq-eqb, ne_eqb, eqb-true, eqb-false}
 use lib.Dec.{eqb}
 use Rattle.image.specs.Tables.{Bucket, start, next, probe_sequence, first_empty}
-use Rattle.image.proofs.Buckets.{probe_sequence-step}
+use Rattle.image.proofs.Buckets.{probe_sequence_step}
 use Rattle.image.proofs.AllOfList.{All}
 use Rattle.lookup_laws.specs.Steps.HasMatch.{has_match}
 use Rattle.lookup_laws.proofs.TableContents.{NotEmpty}
@@ -49,7 +49,7 @@ module _ {words : List ℕ} {h : ℕ} {v : ℕ → Bool} {left k : ℕ} (s : Res
 
     turn : cond (eqb b.at 0) k (cond (eqb b.hash h && v b.at) (m + 1) later) ≡ probe_slots words h v
     unfolding probe_along later
-    turn = sym (ap (probe_along m (slot_at words) h v) (probe_sequence-step m left k more)) ∙ s.rest
+    turn = sym (ap (probe_along m (slot_at words) h v) (probe_sequence_step m left k more)) ∙ s.rest
 
     pub rest_empty : (slot_at words k).at ≡ 0 → k ≡ probe_slots words h v
     rest_empty z =

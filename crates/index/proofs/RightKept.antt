@@ -25,7 +25,7 @@ use Rattle.lists.specs.Calls.{put, WordId}
 use Rattle.lists.specs.Theorems.LongerBuffer.{moved_to, Longer}
 use Rattle.lists.proofs.Closable.{number, written, ends}
 use Rattle.lists.proofs.ListWritten.{Written}
-use Rattle.lists.proofs.ListPuts.{put-due, appended_written, fresh_written}
+use Rattle.lists.proofs.ListPuts.{put_due_lem, appended_written, fresh_written}
 use Rattle.lists.proofs.ListCloses.{close_accepted, close_written}
 use Rattle.lists.proofs.WrittenRecord.{written_recorded}
 use Rattle.lists.proofs.LongerBuffer.{written_there}
@@ -72,7 +72,7 @@ module _ {s : State} {words : List ℕ} (bytes : AllBytes s.buffer) (right : Rig
   now : Written mode repeats n (recorded s ++ (e ∷ [])) (appended s e)
   now =
       let was = written s bytes right.closes right.tables in
-      appended_written mode repeats n (recorded s) s was e (sym (put-due mode repeats n (recorded s) s was e) ∙ due) (word_of mode e word)
+      appended_written mode repeats n (recorded s) s was e (sym (put_due_lem mode repeats n (recorded s) s was e) ∙ due) (word_of mode e word)
 
   same_choice : seeks (appended s e) ≡ seeks s
   same_choice = ap refuses_repeats now.repeats_is
@@ -147,7 +147,7 @@ pub kept_right : KeptRight
 kept_right =
     record {
       fresh_right = right_fresh;
-      fresh-any = right_any;
+      fresh_any = right_any;
       close_right = λ s words bytes right.
           right_written right (was bytes right) (close_written s.writer.mode s.writer.repeats s.writer.length (recorded s) s (was bytes right));
       longer_right = λ s words longer bytes l right. right_moved right (was bytes right) longer l;

@@ -9,19 +9,19 @@ use Rattle.jhash.specs.NameHash.{name_hash}
 use Rattle.jhash.specs.declared.Words.{Words}
 
 -- a zero byte more changes no word
-zero-after : (l : List ℕ) (i : ℕ) → get_or (l ++ 0 ∷ []) i 0 ≡ get_or l i 0
-zero-after [] zero = refl
-zero-after [] (suc i) = refl
-zero-after (x ∷ l) zero = refl
-zero-after (x ∷ l) (suc i) = zero-after l i
+zero_after : (l : List ℕ) (i : ℕ) → get_or (l ++ 0 ∷ []) i 0 ≡ get_or l i 0
+zero_after [] zero = refl
+zero_after [] (suc i) = refl
+zero_after (x ∷ l) zero = refl
+zero_after (x ∷ l) (suc i) = zero_after l i
 
-word-zero : (l : List ℕ) (i : ℕ) → word (l ++ 0 ∷ []) i ≡ word l i
+word_zero : (l : List ℕ) (i : ℕ) → word (l ++ 0 ∷ []) i ≡ word l i
 unfolding word
-word-zero l i = simp zero-after
+word_zero l i = simp zero_after
 
-added-zero : (w : Words) (l : List ℕ) → added w (l ++ 0 ∷ []) ≡ added w l
+added_zero : (w : Words) (l : List ℕ) → added w (l ++ 0 ∷ []) ≡ added w l
 unfolding added
-added-zero w l = λ i. plus w (word-zero l 0 i) (word-zero l 4 i) (word-zero l 8 i)
+added_zero w l = λ i. plus w (word_zero l 0 i) (word_zero l 4 i) (word_zero l 8 i)
 
 -- a block more, where more than 12 bytes remain, and the end, where not
 rest_more : (n : ℕ) (w : Words) (l : List ℕ) → 12 < length l → hash_blocks (suc n) w l ≡ hash_blocks n (mix (added w l)) (drop 12 l)
@@ -50,7 +50,7 @@ enough (suc n) (suc m) w l h k =
 
 without_zero : (n : ℕ) (w : Words) (t : List ℕ) → 12 ≤ length t
     → hash_blocks n (mix (added w (t ++ 0 ∷ []))) (drop 12 (t ++ 0 ∷ [])) ≡ hash_blocks n (mix (added w t)) (drop 12 t ++ 0 ∷ [])
-without_zero n w t h = rw (added-zero, drop-append-le 12 t (0 ∷ []) h)
+without_zero n w t h = rw (added_zero, drop-append-le 12 t (0 ∷ []) h)
 
 -- one turn
 pub block_step : (w : Words) (t : List ℕ) → 12 ≤ length t
@@ -68,7 +68,7 @@ block_step w t h =
 -- the end
 pub last_block : (w : Words) (t : List ℕ) → length t < 12 → final (added w t) ≡ hash_rest w (t ++ 0 ∷ [])
 unfolding hash_rest
-last_block w t h = sym (rest_last (length (t ++ 0 ∷ [])) w (t ++ 0 ∷ []) (simp length-append (omega arith)) ∙ ap final (added-zero w t))
+last_block w t h = sym (rest_last (length (t ++ 0 ∷ [])) w (t ++ 0 ∷ []) (simp length-append (omega arith)) ∙ ap final (added_zero w t))
 
 -- the words and the bytes that the hash of a name begins with
 begin : (l : List ℕ) (start : ℕ) → 0 < length l → hashlittle l start ≡ hash_rest (initial (length l) start) l

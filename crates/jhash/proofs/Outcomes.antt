@@ -82,10 +82,10 @@ result_refused name start r promise is =
 
 -- ---- the hash of a name, 0 where it is too long to have one
 
-pub hash_or-zero_short : (name : List ℕ) → length name < 4294967295 → hash_or_zero name ≡ hash_of name
+pub hash_or_zero_short : (name : List ℕ) → length name < 4294967295 → hash_or_zero name ≡ hash_of name
 unfolding hash_or_zero
-hash_or-zero_short name h = ap (λ (t : Bool). cond t (hash_of name) 0) (lt-ltb (length name) 4294967295 h)
+hash_or_zero_short name h = ap (λ (t : Bool). cond t (hash_of name) 0) (lt-ltb (length name) 4294967295 h)
 
-pub hash_or-zero_long : (name : List ℕ) → 4294967295 ≤ length name → hash_or_zero name ≡ 0
+pub hash_or_zero_long : (name : List ℕ) → 4294967295 ≤ length name → hash_or_zero name ≡ 0
 unfolding hash_or_zero
-hash_or-zero_long name h = ap (λ (t : Bool). cond t (hash_of name) 0) (le-ltb (length name) 4294967295 h)
+hash_or_zero_long name h = ap (λ (t : Bool). cond t (hash_of name) 0) (le-ltb (length name) 4294967295 h)

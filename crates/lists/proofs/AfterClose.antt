@@ -19,9 +19,9 @@ use Rattle.lists.specs.Calls.{Call, put, close, after, accepted_one, put_due, du
 use Rattle.lists.specs.Demand3.{after_list, accepted_puts, image_of}
 use Rattle.lists.specs.Theorems.AfterClose.{AfterClose, CloseReadable}
 use Rattle.lists.proofs.ListWritten.{Written}
-use Rattle.lists.proofs.ListPuts.{put-due}
+use Rattle.lists.proofs.ListPuts.{put_due_lem}
 use Rattle.lists.proofs.ListCloses.{close_written}
-use Rattle.lists.proofs.CallLists.{two-way, after-append, accepted-after_close, list_accepted, list_written}
+use Rattle.lists.proofs.CallLists.{two_way_lem, after_append, accepted_after_close, list_accepted, list_written}
 use Rattle.lists.proofs.OneMoreClose.{list_gives, list_twice}
 use Rattle.lists.proofs.Theorem.{calls_imaged, list_answered}
 
@@ -29,25 +29,25 @@ module _ (repeats : Repeats) (buffer : List ℕ) (cs : List Call) (size : ℕ) (
     (gave : closing (after_list Twoway repeats buffer cs) ≡ value size) where
   -- the size that the close gave is that of the image
   size_is : size ≡ closed_size (after_list Twoway repeats buffer cs)
-  size_is = same_value _ _ (sym gave ∙ list_gives Twoway repeats buffer room cs (two-way cs))
+  size_is = same_value _ _ (sym gave ∙ list_gives Twoway repeats buffer room cs (two_way_lem cs))
 
   -- so the bytes that stand are the image of the one more close after cs
   bytes_are : take size (after_list Twoway repeats buffer (cs ++ (close ∷ []))).buffer ≡ image_of Twoway repeats buffer cs
   unfolding image_of after
-  bytes_are = ap₂ take size_is (ap (λ (s : State). s.buffer) (after-append (fresh Twoway repeats buffer) cs (close ∷ [])))
+  bytes_are = ap₂ take size_is (ap (λ (s : State). s.buffer) (after_append (fresh Twoway repeats buffer) cs (close ∷ [])))
 
-  same-puts : accepted_puts Twoway repeats buffer (cs ++ (close ∷ [])) ≡ accepted_puts Twoway repeats buffer cs
+  same_puts : accepted_puts Twoway repeats buffer (cs ++ (close ∷ [])) ≡ accepted_puts Twoway repeats buffer cs
   unfolding accepted_from
-  same-puts =
-      list_accepted Twoway repeats buffer room (cs ++ (close ∷ [])) (two-way (cs ++ (close ∷ [])))
-      ∙ accepted-after_close Twoway repeats (length buffer) cs []
-      ∙ sym (list_accepted Twoway repeats buffer room cs (two-way cs))
+  same_puts =
+      list_accepted Twoway repeats buffer room (cs ++ (close ∷ [])) (two_way_lem (cs ++ (close ∷ [])))
+      ∙ accepted_after_close Twoway repeats (length buffer) cs []
+      ∙ sym (list_accepted Twoway repeats buffer room cs (two_way_lem cs))
 
-  after-close : AfterClose repeats buffer cs size
-  after-close =
+  after_close_lem : AfterClose repeats buffer cs size
+  after_close_lem =
       record {
-        same-puts = same-puts;
-        stands = bytes_are ∙ calls_imaged Twoway repeats buffer cs room (two-way cs);
+        same_puts = same_puts;
+        stands = bytes_are ∙ calls_imaged Twoway repeats buffer cs room (two_way_lem cs);
         answered = rw bytes_are (list_answered repeats buffer cs room);
       }
 
@@ -74,7 +74,7 @@ module _ (mode : Mode) (repeats : Repeats) (n : ℕ) (es : List Entry) (s : Stat
           → (accepted_from mode repeats n es cs ≡ es → after s cs ≡ s) → after (after_put s e) cs ≡ s
       put_changes_none true d k rest =
           absurd (omega (arith, accepted_grows mode repeats n (es ++ (e ∷ [])) cs, length-append es (e ∷ []), ap length k))
-      put_changes_none false d k rest = rw (put-due mode repeats n es s w e, d) (rest (rw (append-nil es) at k))
+      put_changes_none false d k rest = rw (put_due_lem mode repeats n es s w e, d) (rest (rw (append-nil es) at k))
 
 module _ (repeats : Repeats) (buffer : List ℕ) (cs more : List Call) (room : head_size ≤ length buffer) where
   -- record and buffer after the close
@@ -85,25 +85,25 @@ module _ (repeats : Repeats) (buffer : List ℕ) (cs more : List Call) (room : h
   unfolding there
   there_written =
       close_written Twoway repeats (length buffer) (accepted Twoway repeats (length buffer) cs) (after_list Twoway repeats buffer cs)
-      (list_written Twoway repeats buffer room cs (two-way cs))
+      (list_written Twoway repeats buffer room cs (two_way_lem cs))
 
   no_more : accepted_puts Twoway repeats buffer (cs ++ (close ∷ more)) ≡ accepted_puts Twoway repeats buffer cs
       → accepted_from Twoway repeats (length buffer) (accepted Twoway repeats (length buffer) cs) more ≡ accepted Twoway repeats (length buffer) cs
   no_more h =
-      sym (accepted-after_close Twoway repeats (length buffer) cs more)
-      ∙ sym (list_accepted Twoway repeats buffer room (cs ++ (close ∷ more)) (two-way (cs ++ (close ∷ more))))
+      sym (accepted_after_close Twoway repeats (length buffer) cs more)
+      ∙ sym (list_accepted Twoway repeats buffer room (cs ++ (close ∷ more)) (two_way_lem (cs ++ (close ∷ more))))
       ∙ h
-      ∙ list_accepted Twoway repeats buffer room cs (two-way cs)
+      ∙ list_accepted Twoway repeats buffer room cs (two_way_lem cs)
 
   kept : accepted_puts Twoway repeats buffer (cs ++ (close ∷ more)) ≡ accepted_puts Twoway repeats buffer cs
       → after_list Twoway repeats buffer (cs ++ (close ∷ more)) ≡ after_list Twoway repeats buffer (cs ++ (close ∷ []))
   unfolding after there
   kept h =
-      after-append (fresh Twoway repeats buffer) cs (close ∷ more)
+      after_append (fresh Twoway repeats buffer) cs (close ∷ more)
       ∙ none_changes Twoway repeats (length buffer) (accepted Twoway repeats (length buffer) cs) there there_written
-      (list_twice Twoway repeats buffer room cs (two-way cs)) more (no_more h)
-      ∙ sym (after-append (fresh Twoway repeats buffer) cs (close ∷ []))
+      (list_twice Twoway repeats buffer room cs (two_way_lem cs)) more (no_more h)
+      ∙ sym (after_append (fresh Twoway repeats buffer) cs (close ∷ []))
 
 pub close_readable : CloseReadable
 close_readable =
-    record { after-close = after-close; kept = kept; repaired = λ repeats buffer cs more. after-close repeats buffer (cs ++ (close ∷ more)) }
+    record { after_close_lem = after_close_lem; kept = kept; repaired = λ repeats buffer cs more. after_close_lem repeats buffer (cs ++ (close ∷ more)) }

@@ -14,14 +14,14 @@ use Rattle.lists.specs.Calls.{Call, put, close, after_call, answer, after, answe
 use Rattle.lists.specs.Calls.{accepted_from, due_from, accepted, due, Permitted, AllPermitted, WordId, WordIds}
 use Rattle.lists.specs.Demand3.{answers_of, after_list, accepted_puts}
 use Rattle.lists.proofs.ListWritten.{Written}
-use Rattle.lists.proofs.ListPuts.{put-due, due_number, put_written, fresh_written}
+use Rattle.lists.proofs.ListPuts.{put_due_lem, due_number, put_written, fresh_written}
 use Rattle.lists.proofs.ListCloses.{close_accepted, close_written}
 
 -- ---- one call
 
 module _ (mode : Mode) (repeats : Repeats) (n : ℕ) (es : List Entry) (s : State) (w : Written mode repeats n es s) where
   pub call_due : (c : Call) → answer s c ≡ due_to mode repeats n es c
-  call_due (put e) = put-due mode repeats n es s w e
+  call_due (put e) = put_due_lem mode repeats n es s w e
   call_due close = close_accepted mode repeats n es s w
 
   pub call_written : (c : Call) → WordId mode c → Written mode repeats n (accepted_after mode repeats n es c) (after_call s c)
@@ -30,13 +30,13 @@ module _ (mode : Mode) (repeats : Repeats) (n : ℕ) (es : List Entry) (s : Stat
 
 -- ---- every list
 
-pub answers-due : (mode : Mode) (repeats : Repeats) (n : ℕ) (es : List Entry) (s : State) → Written mode repeats n es s → (cs : List Call) → WordIds mode cs
+pub answers_due : (mode : Mode) (repeats : Repeats) (n : ℕ) (es : List Entry) (s : State) → Written mode repeats n es s → (cs : List Call) → WordIds mode cs
     → answers s cs ≡ due_from mode repeats n es cs
 unfolding answers due_from
-answers-due mode repeats n es s w [] word = refl
-answers-due mode repeats n es s w (c ∷ cs) word =
+answers_due mode repeats n es s w [] word = refl
+answers_due mode repeats n es s w (c ∷ cs) word =
     ap₂ {C = List ℕ} (λ (r : ℕ) (rs : List ℕ). r ∷ rs) (call_due mode repeats n es s w c)
-    (answers-due mode repeats n (accepted_after mode repeats n es c) (after_call s c) (call_written mode repeats n es s w c word.0) cs word.1)
+    (answers_due mode repeats n (accepted_after mode repeats n es c) (after_call s c) (call_written mode repeats n es s w c word.0) cs word.1)
 
 pub after_written : (mode : Mode) (repeats : Repeats) (n : ℕ) (es : List Entry) (s : State) → Written mode repeats n es s → (cs : List Call) → WordIds mode cs
     → Written mode repeats n (accepted_from mode repeats n es cs) (after s cs)
@@ -46,23 +46,23 @@ after_written mode repeats n es s w (c ∷ cs) word =
     after_written mode repeats n (accepted_after mode repeats n es c) (after_call s c) (call_written mode repeats n es s w c word.0) cs word.1
 
 -- one list after another: what both leave, and the puts that are accepted
-pub after-append : (s : State) (cs ds : List Call) → after s (cs ++ ds) ≡ after (after s cs) ds
+pub after_append : (s : State) (cs ds : List Call) → after s (cs ++ ds) ≡ after (after s cs) ds
 unfolding after
-after-append s [] ds = refl
-after-append s (c ∷ cs) ds = after-append (after_call s c) cs ds
+after_append s [] ds = refl
+after_append s (c ∷ cs) ds = after_append (after_call s c) cs ds
 
-pub accepted-append : (mode : Mode) (repeats : Repeats) (n : ℕ) (es : List Entry) (cs ds : List Call)
+pub accepted_append : (mode : Mode) (repeats : Repeats) (n : ℕ) (es : List Entry) (cs ds : List Call)
     → accepted_from mode repeats n es (cs ++ ds) ≡ accepted_from mode repeats n (accepted_from mode repeats n es cs) ds
 unfolding accepted_from
-accepted-append mode repeats n es [] ds = refl
-accepted-append mode repeats n es (c ∷ cs) ds = accepted-append mode repeats n (accepted_after mode repeats n es c) cs ds
+accepted_append mode repeats n es [] ds = refl
+accepted_append mode repeats n es (c ∷ cs) ds = accepted_append mode repeats n (accepted_after mode repeats n es c) cs ds
 
 -- a close accepts no put
-pub accepted-after_close : (mode : Mode) (repeats : Repeats) (n : ℕ) (cs ds : List Call)
+pub accepted_after_close : (mode : Mode) (repeats : Repeats) (n : ℕ) (cs ds : List Call)
     → accepted mode repeats n (cs ++ (close ∷ ds)) ≡ accepted_from mode repeats n (accepted mode repeats n cs) ds
 unfolding accepted accepted_from
-accepted-after_close mode repeats n cs ds =
-    accepted-append mode repeats n [] cs (close ∷ ds)
+accepted_after_close mode repeats n cs ds =
+    accepted_append mode repeats n [] cs (close ∷ ds)
     ∙ ap (λ (l : List Entry). accepted_from mode repeats n l ds) (append-nil (accepted_from mode repeats n [] cs))
 
 -- ---- what is due
@@ -82,25 +82,25 @@ unfolding due
 due_permitted mode repeats n cs = permitted_from mode repeats n [] cs
 
 -- the accepted puts are those whose answer is no refusal
-accepted-from : (mode : Mode) (repeats : Repeats) (n : ℕ) (es : List Entry) (cs : List Call)
+accepted_from_lem : (mode : Mode) (repeats : Repeats) (n : ℕ) (es : List Entry) (cs : List Call)
     → accepted_from mode repeats n es cs ≡ es ++ accepted_by cs (due_from mode repeats n es cs)
 unfolding accepted_from accepted_by due_from
-accepted-from mode repeats n es [] = sym (append-nil es)
-accepted-from mode repeats n es (c ∷ cs) =
+accepted_from_lem mode repeats n es [] = sym (append-nil es)
+accepted_from_lem mode repeats n es (c ∷ cs) =
     let next : List Entry = accepted_after mode repeats n es c in
-    accepted-from mode repeats n next cs
+    accepted_from_lem mode repeats n next cs
     ∙ append_assoc es (accepted_one c (due_to mode repeats n es c)) (accepted_by cs (due_from mode repeats n next cs))
 
 pub accepted_by_due : (mode : Mode) (repeats : Repeats) (n : ℕ) (cs : List Call) → accepted_by cs (due mode repeats n cs) ≡ accepted mode repeats n cs
 unfolding accepted due
-accepted_by_due mode repeats n cs = sym (accepted-from mode repeats n [] cs)
+accepted_by_due mode repeats n cs = sym (accepted_from_lem mode repeats n [] cs)
 
 -- ---- from a fresh record
 
 -- a two-way list needs no premise
-pub two-way : (cs : List Call) → WordIds Twoway cs
-two-way [] = tt
-two-way (c ∷ cs) = (tt, two-way cs)
+pub two_way_lem : (cs : List Call) → WordIds Twoway cs
+two_way_lem [] = tt
+two_way_lem (c ∷ cs) = (tt, two_way_lem cs)
 
 pub begin_accepts : (n : ℕ) → head_size ≤ n → begin_refusal n ≡ 0
 begin_accepts n room = rw (le-ltb n head_size room)
@@ -119,7 +119,7 @@ list_counts mode repeats buffer room given = rw (begin_accepts (length buffer) r
 module _ (mode : Mode) (repeats : Repeats) (buffer : List ℕ) (room : head_size ≤ length buffer) (cs : List Call) (word : WordIds mode cs) where
   pub list_answers : answers_of mode repeats buffer cs ≡ due mode repeats (length buffer) cs
   unfolding due
-  list_answers = answers-due mode repeats (length buffer) [] (fresh mode repeats buffer) (fresh_written mode repeats buffer room) cs word
+  list_answers = answers_due mode repeats (length buffer) [] (fresh mode repeats buffer) (fresh_written mode repeats buffer room) cs word
 
   -- no call gives 2 or 4, and no close is refused
   pub list_permitted : AllPermitted cs (answers_of mode repeats buffer cs)

@@ -16,7 +16,7 @@ use Rattle.image.proofs.EntryArea.{AllBytes, bytes_take, bytes_drop, ids_words, 
 use Rattle.image.proofs.Between.{drop-take}
 use Rattle.image.proofs.Bools.{and_first, and_second}
 use Rattle.image.proofs.AllOfList.{All}
-use Rattle.image.proofs.Sizes.{back_in-twice}
+use Rattle.image.proofs.Sizes.{back_in_twice}
 use Rattle.serialize.proofs.WrittenImage.{area_kept, stored_end}
 use Rattle.writer.specs.State.{State, fits, finished_size, too_large}
 use Rattle.writer.specs.Close.{entry_area, recorded, consistent, close_refusal}
@@ -80,7 +80,7 @@ module _ (s : State) (bytes : AllBytes s.buffer) (closes : close_refusal s ≡ 0
   end_small = omega (arith, sizes.1)
 
   backs_in : back_in s.writer.mode s.writer.back ≡ back_in s.writer.mode (back_size (recorded s))
-  backs_in = ap (back_in s.writer.mode) back_is ∙ back_in-twice s.writer.mode (back_size (recorded s))
+  backs_in = ap (back_in s.writer.mode) back_is ∙ back_in_twice s.writer.mode (back_size (recorded s))
 
   pub written : length s.counts ≡ 256 → Written s.writer.mode s.writer.repeats s.writer.length (recorded s) s
   written tables =
@@ -88,10 +88,10 @@ module _ (s : State) (bytes : AllBytes s.buffer) (closes : close_refusal s ≡ 0
         mode_is = refl;
         repeats_is = refl;
         length_is = refl;
-        length-kept = sym f.same_length;
+        length_kept = sym f.same_length;
         end = ends;
         entries = sym number;
-        back-size = back_is;
+        back_size_lem = back_is;
         tables = tables;
         counts = λ t h. count_of t h;
         area = ap (λ (k : ℕ). take k (drop head_size s.buffer)) size ∙ area_is;

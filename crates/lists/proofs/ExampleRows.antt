@@ -18,7 +18,7 @@ use Rattle.image.specs.Zero.{has_zero}
 use Rattle.lookup_laws.specs.Answer.{of_name, first_id, is_named, of_id}
 use Rattle.image.proofs.At.{at_word}
 use Rattle.image.proofs.Parts.{back_word_at}
-use Rattle.lookup_laws.proofs.ImageOpening.{back_size_at-image, back_offset_at-image}
+use Rattle.lookup_laws.proofs.ImageOpening.{back_size_at_image, back_offset_at_image}
 use Rattle.writer.specs.declared.Repeats.{Repeats}
 use Rattle.lists.specs.Calls.{accepted_from, due_from, accepted, due, put_due, puts_size, size_of, WordIds}
 use Rattle.lists.proofs.ImageRead.{named_in, Read}
@@ -68,9 +68,9 @@ module _ (mode : Mode) (es : List Entry) (small : image_size mode es ≤ 4294967
   back_word_read i h =
       rw (ne_eqb (back_size_of mode es) 0 (λ z. omega arith)) (at_word (back_word (placed head_size es) i) (back_word_at mode es small i h) (back_word_small i))
 
-  back-array : back_array (image mode es) ≡ map (back_word (placed head_size es)) (range 0 (back_size_of mode es))
-  back-array =
-      rw (back_offset_at-image mode es small, back_size_at-image mode es small)
+  back_array_lem : back_array (image mode es) ≡ map (back_word (placed head_size es)) (range 0 (back_size_of mode es))
+  back_array_lem =
+      rw (back_offset_at_image mode es small, back_size_at_image mode es small)
       (map_range (λ (i : ℕ). word (image mode es) (back_offset mode es + 4 * i)) (back_word (placed head_size es)) 0 (back_size_of mode es)
       (λ i p. back_word_read i (omega arith)))
 
@@ -105,8 +105,8 @@ module _ (r : ListRow) (c : Computed r) where
   image_holds img is small read =
       record {
         opened = read.names.opened ∙ ap value c.4;
-        back-offset = ap back_offset_at is ∙ back_offset_at-image r.mode (entries r) small ∙ c.5;
-        back-array = ap back_array is ∙ back-array r.mode (entries r) small ∙ c.6;
+        back_offset_lem = ap back_offset_at is ∙ back_offset_at_image r.mode (entries r) small ∙ c.5;
+        back_array_lem = ap back_array is ∙ back_array_lem r.mode (entries r) small ∙ c.6;
         named = each_map (λ a h. read.names.name_gives a.name ∙ h) r.names c.7;
         placed = each_map (λ a h. (read.id_gives a.id ∙ h.0, read.id_home a.id ∙ h.1)) r.ids c.8;
       }

@@ -11,7 +11,7 @@ use Rattle.image.specs.declared.Mode.{Mode}
 use Rattle.image.specs.Bytes.{cat}
 use Rattle.image.specs.Image.{Entry, head_size, entry_bytes, entries_size, entries_end, placed, back_size_of, image_size}
 use Rattle.image.specs.Image.{head_words, table_rows, tables, back_words, image}
-use Rattle.image.proofs.Sizes.{length_entries, length-head_words, length-table_rows, length-image}
+use Rattle.image.proofs.Sizes.{length_entries, length-head_words, length-table_rows, length_image}
 use Rattle.writer.specs.declared.Repeats.{Repeats}
 use Rattle.writer.specs.State.{State, fits, finished_size, too_large}
 use Rattle.writer.specs.Close.{consistent, close_refusal, closed_size, closed, after_close}
@@ -28,8 +28,8 @@ image_split : (mode : Mode) (es : List Entry) (rest : List ℕ)
 unfolding image
 image_split mode es rest = simp append_assoc
 
-head-length : (mode : Mode) (es : List Entry) → length (head_words mode es ++ table_rows (entries_end es) (placed head_size es)) ≡ head_size
-head-length mode es =
+head_length : (mode : Mode) (es : List Entry) → length (head_words mode es ++ table_rows (entries_end es) (placed head_size es)) ≡ head_size
+head_length mode es =
     let both = length-append (head_words mode es) (table_rows (entries_end es) (placed head_size es)) in
     omega (arith, both, length-head_words mode es, length-table_rows (entries_end es) (placed head_size es))
 
@@ -38,7 +38,7 @@ area_in_image mode es rest =
     let after : List ℕ = tables (placed head_size es) ++ back_words (placed head_size es) (back_size_of mode es) ++ rest in
     let head : List ℕ = head_words mode es ++ table_rows (entries_end es) (placed head_size es) in
     ap (λ (l : List ℕ). take (entries_size es) (drop head_size l)) (image_split mode es rest)
-    ∙ ap (take (entries_size es)) (drop_at head (cat entry_bytes es ++ after) head_size (head-length mode es))
+    ∙ ap (take (entries_size es)) (drop_at head (cat entry_bytes es ++ after) head_size (head_length mode es))
     ∙ take_at (cat entry_bytes es) after (entries_size es) (length_entries es)
 
 -- ---- the decision
@@ -75,14 +75,14 @@ module _ (mode : Mode) (repeats : Repeats) (n : ℕ) (es : List Entry) (s : Stat
   pub close_image : take (closed_size s) (after_close s).buffer ≡ image mode es
   close_image =
       ap₂ take (written_size mode repeats n es s w) (ap (λ (r : State). r.buffer) close_closed ∙ closed_buffer)
-      ∙ take_at (image mode es) (drop (image_size mode es) s.buffer) (image_size mode es) (length-image mode es)
+      ∙ take_at (image mode es) (drop (image_size mode es) s.buffer) (image_size mode es) (length_image mode es)
 
-  closed-length : length (closed s).buffer ≡ n
-  closed-length =
+  closed_length : length (closed s).buffer ≡ n
+  closed_length =
       ap length closed_buffer
       ∙ length-append (image mode es) (drop (image_size mode es) s.buffer)
       ∙ sum (length (image mode es)) (length (drop (image_size mode es) s.buffer)) (image_size mode es) (length s.buffer)
-      (length-image mode es) (length-drop (image_size mode es) s.buffer) w.length-kept w.within
+      (length_image mode es) (length-drop (image_size mode es) s.buffer) w.length_kept w.within
     where
       sum : (a b k l : ℕ) → a ≡ k → b ≡ l - k → l ≡ n → k ≤ n → a + b ≡ n
       sum a b k l p q r h = omega arith
@@ -94,10 +94,10 @@ module _ (mode : Mode) (repeats : Repeats) (n : ℕ) (es : List Entry) (s : Stat
         mode_is = w.mode_is;
         repeats_is = w.repeats_is;
         length_is = w.length_is;
-        length-kept = closed-length;
+        length_kept = closed_length;
         end = w.end;
         entries = w.entries;
-        back-size = w.back-size;
+        back_size_lem = w.back_size_lem;
         tables = w.tables;
         counts = w.counts;
         area = ap (λ (l : List ℕ). take (entries_size es) (drop head_size l)) closed_buffer ∙ area_in_image mode es (drop (image_size mode es) s.buffer);
@@ -121,7 +121,7 @@ module _ (mode : Mode) (repeats : Repeats) (n : ℕ) (es : List Entry) (s : Stat
           closed_buffer mode repeats n es (closed s) (closed_written mode repeats n es s w)
           ∙ ap (λ (l : List ℕ). image mode es ++ drop (image_size mode es) l) (closed_buffer mode repeats n es s w)
           ∙ ap (λ (l : List ℕ). image mode es ++ l)
-          (drop_at (image mode es) (drop (image_size mode es) s.buffer) (image_size mode es) (length-image mode es))
+          (drop_at (image mode es) (drop (image_size mode es) s.buffer) (image_size mode es) (length_image mode es))
           ∙ sym (closed_buffer mode repeats n es s w)
 
   pub close_again : after_close (after_close s) ≡ after_close s

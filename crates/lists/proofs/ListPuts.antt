@@ -26,8 +26,8 @@ use Rattle.writer.specs.Close.{recorded, consistent}
 use Rattle.lists.specs.Calls.{put, size_of, put_due, accepted_after, WordId}
 use Rattle.lists.proofs.ListWritten.{Written}
 use Rattle.image.proofs.Bools.{or_false_first, or_false_second, chose_second}
-use Rattle.image.proofs.Lists.{cat-append}
-use Rattle.image.proofs.Sizes.{length-entry_bytes, length_entries, back_in-twice}
+use Rattle.image.proofs.Lists.{cat_append}
+use Rattle.image.proofs.Sizes.{length-entry_bytes, length_entries, back_in_twice}
 use Rattle.lists.proofs.Appended.{entries_size-snoc, back_size-snoc, size_of_is, count_same, count_other}
 use Rattle.lists.proofs.WrittenRecord.{written_fits, written_recorded, written_consistent}
 
@@ -43,18 +43,18 @@ back_after_is Oneway b es e h = h
 module _ (mode : Mode) (repeats : Repeats) (n : ℕ) (es : List Entry) (s : State) (w : Written mode repeats n es s) (e : Entry) where
   back_then : back_after s.writer.mode s.writer.back e.id ≡ back_in mode (back_size (es ++ (e ∷ [])))
   back_then =
-      ap (λ (f : Mode). back_after f s.writer.back e.id) w.mode_is ∙ back_after_is mode s.writer.back es e w.back-size
+      ap (λ (f : Mode). back_after f s.writer.back e.id) w.mode_is ∙ back_after_is mode s.writer.back es e w.back_size_lem
 
   finished_then : finished_size (writer_after_entry s.writer e) ≡ size_of mode (es ++ (e ∷ []))
   unfolding writer_after_entry
   finished_then =
       let b : back_in s.writer.mode (back_after s.writer.mode s.writer.back e.id) ≡ back_in mode (back_size (es ++ (e ∷ []))) =
-      ap₂ back_in w.mode_is back_then ∙ back_in-twice mode (back_size (es ++ (e ∷ []))) in
+      ap₂ back_in w.mode_is back_then ∙ back_in_twice mode (back_size (es ++ (e ∷ []))) in
       omega (arith, b, w.end, w.entries, entries_size-snoc es e, length-append es (e ∷ []), size_of_is mode (es ++ (e ∷ [])))
 
-  pub put-due : put_refusal s e ≡ put_due mode repeats n es e
+  pub put_due_lem : put_refusal s e ≡ put_due mode repeats n es e
   unfolding put_refusal put_due
-  put-due =
+  put_due_lem =
       let zero = has_zero e.name in
       let held = contains_name e.name (recorded s) in
       let full = too_large s.writer.length (finished_size (writer_after_entry s.writer e)) in
@@ -93,10 +93,10 @@ pub due_free : (mode : Mode) (repeats : Repeats) (n : ℕ) (es : List Entry) (e 
 unfolding put_due
 due_free mode repeats n es e due = (chose_second {A = ℕ} (has_zero e.name) 13 _ 0 (λ z. omega arith) due).0
 
-pub due-new : (mode : Mode) (repeats : Repeats) (n : ℕ) (es : List Entry) (e : Entry) → put_due mode repeats n es e ≡ 0
+pub due_new : (mode : Mode) (repeats : Repeats) (n : ℕ) (es : List Entry) (e : Entry) → put_due mode repeats n es e ≡ 0
     → (contains_name e.name es && refuses_repeats repeats) ≡ false
 unfolding put_due
-due-new mode repeats n es e due =
+due_new mode repeats n es e due =
     let free = chose_second {A = ℕ} (has_zero e.name) 13 _ 0 (λ z. omega arith) due in
     (chose_second {A = ℕ} (contains_name e.name es && refuses_repeats repeats) 16 _ 0 (λ z. omega arith) free.1).0
 
@@ -160,7 +160,7 @@ module _ (mode : Mode) (repeats : Repeats) (n : ℕ) (es : List Entry) (s : Stat
   pub area_then : take (entries_size es + entry_size e) (drop head_size (sets s.buffer s.writer.end (entry_bytes e))) ≡ cat entry_bytes es ++ entry_bytes e
   area_then =
       let fit : head_size + entries_size es + length (entry_bytes e) ≤ length s.buffer =
-      omega (arith, within_then, entries_size-snoc es e, length-entry_bytes e, w.length-kept) in
+      omega (arith, within_then, entries_size-snoc es e, length-entry_bytes e, w.length_kept) in
       let size : entries_size es + entry_size e ≡ entries_size es + length (entry_bytes e) = omega (arith, length-entry_bytes e) in
       ap₂ (λ (k i : ℕ). take k (drop head_size (sets s.buffer i (entry_bytes e)))) size w.end
       ∙ stored_after head_size (entries_size es) s.buffer (cat entry_bytes es) (entry_bytes e) (length_entries es) w.area fit
@@ -171,7 +171,7 @@ module _ (mode : Mode) (repeats : Repeats) (n : ℕ) (es : List Entry) (s : Stat
       ap (λ (k : ℕ). take k (drop head_size (sets s.buffer s.writer.end (entry_bytes e)))) (entries_size-snoc es e)
       ∙ area_then
       ∙ ap (λ (m : List ℕ). cat entry_bytes es ++ m) (sym (append-nil (entry_bytes e)))
-      ∙ sym (cat-append entry_bytes es (e ∷ []))
+      ∙ sym (cat_append entry_bytes es (e ∷ []))
 
   counts_then : (t : ℕ) → t < 256 → get_or (counts_after s.counts e) t 0 ≡ count t (placed head_size (es ++ (e ∷ [])))
   unfolding counts_after
@@ -199,10 +199,10 @@ module _ (mode : Mode) (repeats : Repeats) (n : ℕ) (es : List Entry) (s : Stat
         mode_is = w.mode_is;
         repeats_is = w.repeats_is;
         length_is = w.length_is;
-        length-kept = length-sets s.buffer s.writer.end (entry_bytes e) ∙ w.length-kept;
+        length_kept = length-sets s.buffer s.writer.end (entry_bytes e) ∙ w.length_kept;
         end = omega (arith, w.end, entries_size-snoc es e);
         entries = omega (arith, w.entries, length-append es (e ∷ []));
-        back-size = back_then mode repeats n es s w e;
+        back_size_lem = back_then mode repeats n es s w e;
         tables = tables_then;
         counts = counts_then;
         area = area_all;
@@ -219,7 +219,7 @@ module _ (mode : Mode) (repeats : Repeats) (n : ℕ) (es : List Entry) (s : Stat
   put_written word = written_by_due (eqb (put_due mode repeats n es e) 0) refl
     where
       due : put_refusal s e ≡ put_due mode repeats n es e
-      due = put-due mode repeats n es s w e
+      due = put_due_lem mode repeats n es s w e
 
       written_by_due : (b : Bool) → eqb (put_due mode repeats n es e) 0 ≡ b
           → Written mode repeats n (es ++ cond b (e ∷ []) []) (cond (eqb (put_refusal s e) 0) (appended s e) s)
@@ -236,10 +236,10 @@ fresh_written mode repeats buffer capacity =
       mode_is = refl;
       repeats_is = refl;
       length_is = refl;
-      length-kept = refl;
+      length_kept = refl;
       end = refl;
       entries = refl;
-      back-size = sym (no_back mode);
+      back_size_lem = sym (no_back mode);
       tables = length-replicate {A = ℕ} 256 0;
       counts = λ t h. get_or-replicate 256 t 0 0 h;
       area = refl;

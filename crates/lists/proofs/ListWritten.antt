@@ -14,10 +14,10 @@ pub record Written (mode : Mode) (repeats : Repeats) (n : ℕ) (es : List Entry)
   pub mode_is : s.writer.mode ≡ mode
   pub repeats_is : s.writer.repeats ≡ repeats
   pub length_is : s.writer.length ≡ n
-  pub length-kept : length s.buffer ≡ n
+  pub length_kept : length s.buffer ≡ n
   pub end : s.writer.end ≡ entries_end es
   pub entries : s.writer.entries ≡ length es
-  pub back-size : s.writer.back ≡ back_size_of mode es
+  pub back_size_lem : s.writer.back ≡ back_size_of mode es
   pub tables : length s.counts ≡ 256
   pub counts : (t : ℕ) → t < 256 → get_or s.counts t 0 ≡ count t (placed head_size es)
   pub area : take (entries_size es) (drop head_size s.buffer) ≡ cat entry_bytes es

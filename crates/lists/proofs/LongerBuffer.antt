@@ -22,8 +22,8 @@ use Rattle.lists.specs.Theorems.LongerBuffer.{moved_to, Longer, GrownList, Longe
 use Rattle.lists.proofs.ListWritten.{Written}
 use Rattle.lists.proofs.Appended.{entries_size-snoc}
 use Rattle.lists.proofs.WrittenRecord.{written_area}
-use Rattle.lists.proofs.ListPuts.{put-due, due_room, appended_written, fresh_written}
-use Rattle.lists.proofs.CallLists.{after-append, list_accepted, list_written}
+use Rattle.lists.proofs.ListPuts.{put_due_lem, due_room, appended_written, fresh_written}
+use Rattle.lists.proofs.CallLists.{after_append, list_accepted, list_written}
 use Rattle.lists.proofs.PutsAgain.{Again, again, again_accepted, again_there, due_longer, words_again}
 
 -- ---- bytes that stand already
@@ -66,7 +66,7 @@ module _ (mode : Mode) (repeats : Repeats) (n : ℕ) where
     unfolding appended
     same_bytes =
         let fit : entries_end es + length (entry_bytes f) ≤ length s.buffer =
-        omega (arith, (due_room mode repeats n es f due.0).0, entries_size-snoc es f, length-entry_bytes f, w.length-kept) in
+        omega (arith, (due_room mode repeats n es f due.0).0, entries_size-snoc es f, length-entry_bytes f, w.length_kept) in
         ap (λ (i : ℕ). sets s.buffer i (entry_bytes f)) w.end
         ∙ stored_same s.buffer (entry_bytes f) (entries_end es) fit (front_stands parts (entry_bytes f) (cat entry_bytes fs) (entries_size fs) both)
 
@@ -83,7 +83,7 @@ module _ (mode : Mode) (repeats : Repeats) (n : ℕ) where
   unfolding after put_all
   puts_present es s [] w due word stands = refl
   puts_present es s (f ∷ fs) w due word stands =
-      let none : put_refusal s f ≡ 0 = put-due mode repeats n es s w f ∙ due.0 in
+      let none : put_refusal s f ≡ 0 = put_due_lem mode repeats n es s w f ∙ due.0 in
       let then = appended_written mode repeats n es s w f due.0 word.0 in
       ap (λ (t : State). (after t (put_all fs)).buffer) (sym (accepted_leaves s f none))
       ∙ puts_present (es ++ (f ∷ [])) (appended s f) fs then due.1 word.1 (later_stand es s f fs w due stands)
@@ -100,16 +100,16 @@ module _ (mode : Mode) (repeats : Repeats) (n : ℕ) (es : List Entry) (s t : St
         length = (w.length_is ∙ sym v.length_is) i;
         end = (w.end ∙ sym v.end) i;
         entries = (w.entries ∙ sym v.entries) i;
-        back = (w.back-size ∙ sym v.back-size) i;
+        back = (w.back_size_lem ∙ sym v.back_size_lem) i;
       }
 
-  same-counts : s.counts ≡ t.counts
-  same-counts =
+  same_counts : s.counts ≡ t.counts
+  same_counts =
       ext_get_or 0 s.counts t.counts (w.tables ∙ sym v.tables)
       (λ k h. w.counts k (omega (arith, w.tables)) ∙ sym (v.counts k (omega (arith, w.tables))))
 
   pub same_written : s.buffer ≡ t.buffer → s ≡ t
-  same_written e = λ i. record { writer = same_writer i; counts = same-counts i; buffer = e i }
+  same_written e = λ i. record { writer = same_writer i; counts = same_counts i; buffer = e i }
 
 -- ---- the record in a longer buffer
 
@@ -128,10 +128,10 @@ module _ (mode : Mode) (repeats : Repeats) (n : ℕ) (es : List Entry) (s : Stat
         mode_is = w.mode_is;
         repeats_is = w.repeats_is;
         length_is = refl;
-        length-kept = refl;
+        length_kept = refl;
         end = w.end;
         entries = w.entries;
-        back-size = w.back-size;
+        back_size_lem = w.back_size_lem;
         tables = w.tables;
         counts = w.counts;
         area = area_there;
@@ -199,14 +199,14 @@ module _ (mode : Mode) (repeats : Repeats) (buffer longer : List ℕ) (cs : List
       state_there ∙ ap (λ (fs : List Entry). after_list mode repeats longer (put_all fs)) (sym are) in
       record {
         taken = sym (longer_accepted s.writer m l.long).0;
-        same-puts =
+        same_puts =
             ap (λ (fs : List Entry). accepted_puts mode repeats longer (put_all fs)) are
             ∙ list_accepted mode repeats longer room_there (put_all es) words
             ∙ accepted_there
             ∙ sym are;
         same_state = same;
         goes_on = λ more.
-            ap (λ (t : State). after t more) same ∙ sym (after-append (fresh mode repeats longer) (put_all (accepted_puts mode repeats buffer cs)) more);
+            ap (λ (t : State). after t more) same ∙ sym (after_append (fresh mode repeats longer) (put_all (accepted_puts mode repeats buffer cs)) more);
       }
 
 pub longer_buffer : LongerBuffer

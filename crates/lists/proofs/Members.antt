@@ -10,7 +10,7 @@ use lib.ListN.{length}
 use borrow.Author.Tests.{eq-eqb, eqb-true}
 use Rattle.image.specs.Bytes.{filter, same}
 use Rattle.image.specs.Image.{Entry, has_id}
-use Rattle.image.proofs.Lists.{filter-yes, filter-cons}
+use Rattle.image.proofs.Lists.{filter_yes, filter-cons}
 use Rattle.image.proofs.Equal.{same_self, same_true}
 use Rattle.lookup_laws.specs.Answer.{has_name, of_name, of_id, first_id, last_name}
 use Rattle.writer.specs.Put.{entry_of}
@@ -24,7 +24,7 @@ In e (x ∷ xs) = (x ≡ e) ⊎ In e xs
 module _ (test : Entry → Bool) (e : Entry) where
   kept : (xs : List Entry) → In e xs → test e ≡ true → In e (filter test xs)
   kept [] m h = absurd m
-  kept (x ∷ xs) (inl p) h = rw (filter-yes test x xs (ap test p ∙ h)) (inl p)
+  kept (x ∷ xs) (inl p) h = rw (filter_yes test x xs (ap test p ∙ h)) (inl p)
   kept (x ∷ xs) (inr m) h = rw (filter-cons test x xs) (kept_behind_first (test x) (kept xs m h))
     where
       kept_behind_first : (b : Bool) → In e (filter test xs) → In e (cond b (x ∷ filter test xs) (filter test xs))

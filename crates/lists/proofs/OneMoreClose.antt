@@ -61,6 +61,6 @@ none_from mode repeats n es [] h = refl
 none_from mode repeats n es (put e ∷ cs) h = absurd (let z : ◌≡◌ {A = ℕ} 0 1 = cc in omega arith)
 none_from mode repeats n es (close ∷ cs) h = rw (append-nil es) (none_from mode repeats n es cs h)
 
-pub none-accepted : (mode : Mode) (repeats : Repeats) (n : ℕ) (cs : List Call) → puts cs ≡ [] → accepted mode repeats n cs ≡ []
+pub none_accepted : (mode : Mode) (repeats : Repeats) (n : ℕ) (cs : List Call) → puts cs ≡ [] → accepted mode repeats n cs ≡ []
 unfolding accepted
-none-accepted mode repeats n cs h = none_from mode repeats n [] cs h
+none_accepted mode repeats n cs h = none_from mode repeats n [] cs h

@@ -14,7 +14,7 @@ use Rattle.writer.specs.declared.Repeats.{Repeats}
 use Rattle.writer.specs.State.{refuses_repeats, too_large}
 use Rattle.lists.specs.Calls.{Call, put, close, accepted_by, size_of, put_due, accepted_from, due_from, accepted, due, WordIds, put_all}
 use Rattle.lists.proofs.Appended.{size_of_is}
-use Rattle.lists.proofs.ListPuts.{due_free, due-new, due_room}
+use Rattle.lists.proofs.ListPuts.{due_free, due_new, due_room}
 use Rattle.lists.proofs.CallLists.{accepted_by_due}
 
 module _ (mode : Mode) (repeats : Repeats) (n : ℕ) where
@@ -41,17 +41,17 @@ module _ (mode : Mode) (repeats : Repeats) (n : ℕ) where
   again cs = subst (λ (es : List Entry). Again [] es) (accepted_by_due mode repeats n cs) (again_from [] cs)
 
   -- so all are accepted
-  all-accepted : (es fs : List Entry) → Again es fs → accepted_from mode repeats n es (put_all fs) ≡ es ++ fs
+  all_accepted : (es fs : List Entry) → Again es fs → accepted_from mode repeats n es (put_all fs) ≡ es ++ fs
   unfolding accepted_from put_all
-  all-accepted es [] h = sym (append-nil es)
-  all-accepted es (f ∷ fs) h =
+  all_accepted es [] h = sym (append-nil es)
+  all_accepted es (f ∷ fs) h =
       ap (λ (b : Bool). accepted_from mode repeats n (es ++ cond b (f ∷ []) []) (put_all fs)) (eq-eqb (put_due mode repeats n es f) 0 h.0)
-      ∙ all-accepted (es ++ (f ∷ [])) fs h.1
+      ∙ all_accepted (es ++ (f ∷ [])) fs h.1
       ∙ append_assoc es (f ∷ []) fs
 
   pub again_accepted : (fs : List Entry) → Again [] fs → accepted mode repeats n (put_all fs) ≡ fs
   unfolding accepted
-  again_accepted fs h = all-accepted [] fs h
+  again_accepted fs h = all_accepted [] fs h
 
 -- where another choice or another length refuses no more, the same puts are accepted
 pub again_there : (mode : Mode) (r q : Repeats) (n m : ℕ) → ((es : List Entry) (e : Entry) → put_due mode r n es e ≡ 0 → put_due mode q m es e ≡ 0)
@@ -68,7 +68,7 @@ due_longer mode repeats n m more es e d =
     let room = due_room mode repeats n es e d in
     let is = size_of_is mode (es ++ (e ∷ [])) in
     decided (has_zero e.name) (contains_name e.name es && refuses_repeats repeats) (too_large m size) (due_free mode repeats n es e d)
-    (due-new mode repeats n es e d)
+    (due_new mode repeats n es e d)
     (ap₂ {C = Bool} (λ (a b : Bool). a || b) (le-ltb m size (omega (arith, room.0, is))) (le-ltb 4294967295 size (omega (arith, room.1, is))))
   where
     decided : (z h t : Bool) → z ≡ false → h ≡ false → t ≡ false → ◌≡◌ {A = ℕ} (cond z 13 (cond h 16 (cond t 3 0))) 0

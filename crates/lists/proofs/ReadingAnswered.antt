@@ -19,7 +19,7 @@ use Rattle.reader.specs.Cases.{reads}
 use Rattle.lookup_laws.proofs.ImageLookup.{lookup_long}
 use Rattle.lookup_laws.proofs.ImageAnswers.{image_opens, name_gives, name_nothing, name_reads, found_reads, last_matches, ids_fit, id_gives, id_nothing}
 use Rattle.lookup_laws.proofs.ImageNaming.{naming_oneway}
-use Rattle.lookup_laws.proofs.ImageWalk.{slice_given, step_given, home_given, hint_image}
+use Rattle.lookup_laws.proofs.ImageWalk.{slice_given, step_given_lem, home_given, hint_image}
 use Rattle.writer.specs.declared.Repeats.{Repeats}
 use Rattle.lists.specs.Calls.{Call, accepted, WordIds}
 use Rattle.lists.specs.Demand3.{image_of, NamesAnswered}
@@ -38,8 +38,8 @@ found_most (nothing r) m id most h = absurd (let z : ◌≡◌ {A = ℕ} 0 1 = c
 -- ---- an image of entries, of either mode
 
 module _ (es : List Entry) (ids : back_size es ≤ 2 ^ 32) where
-  image-names : (mode : Mode) → image_size mode es ≤ 4294967295 → NamesAnswered es (image mode es)
-  image-names mode small =
+  image_names : (mode : Mode) → image_size mode es ≤ 4294967295 → NamesAnswered es (image mode es)
+  image_names mode small =
       record {
         opened = image_opens mode es small;
         name_gives = name_gives mode es small ids;
@@ -49,9 +49,9 @@ module _ (es : List Entry) (ids : back_size es ≤ 2 ^ 32) where
         long_unread = λ name h. ap reads (lookup_long (image mode es) name h);
       }
 
-  image-ids : (mode : Mode) → image_size mode es ≤ 4294967295 → (id : ℕ) → name_given (image mode es) id ≡ named_in mode es id
-  image-ids Twoway small id = id_gives es small id
-  image-ids Oneway small id = ap (bytes_at (image Oneway es)) (naming_oneway es small id)
+  image_ids : (mode : Mode) → image_size mode es ≤ 4294967295 → (id : ℕ) → name_given (image mode es) id ≡ named_in mode es id
+  image_ids Twoway small id = id_gives es small id
+  image_ids Oneway small id = ap (bytes_at (image Oneway es)) (naming_oneway es small id)
 
   -- the search for a name that an id has meets an entry with this id
   image_met : (mode : Mode) → image_size mode es ≤ 4294967295 → (id : ℕ) (name : List ℕ) → named_in mode es id ≡ some name
@@ -62,9 +62,9 @@ module _ (es : List Entry) (ids : back_size es ≤ 2 ^ 32) where
   read_image : (mode : Mode) → image_size mode es ≤ 4294967295 → Read mode es (image mode es)
   read_image mode small =
       record {
-        names = image-names mode small;
-        id_gives = image-ids mode small;
-        id_home = λ id. home_given (image mode es) id (named_in mode es id) (image-ids mode small id) (image_met mode small id);
+        names = image_names mode small;
+        id_gives = image_ids mode small;
+        id_home = λ id. home_given (image mode es) id (named_in mode es id) (image_ids mode small id) (image_met mode small id);
       }
 
 -- ---- two-way, and one-way
@@ -76,7 +76,7 @@ two_way_answered es small =
       names = read.names;
       ids = record { id_gives = id_gives es small; id_nothing = id_nothing es small };
       slice_given = λ at id other. slice_given (image Twoway es) id at other (last_name (of_id id es)) (id_gives es small id);
-      walked = λ id. step_given (image Twoway es) id (last_name (of_id id es)) (id_gives es small id);
+      walked = λ id. step_given_lem (image Twoway es) id (last_name (of_id id es)) (id_gives es small id);
       hinted = hint_image Twoway es small;
       homes = read.id_home;
     }
@@ -88,7 +88,7 @@ one_way_unanswered es small =
       id_unnamed = naming_oneway es small;
       walk_ended = λ id. ap (step_of id) (naming_oneway es small id);
       none_hinted = λ id. omega (arith, hint_image Oneway es small id);
-      none-home = λ id. ap (home_by (image Oneway es) id) (naming_oneway es small id);
+      none_home = λ id. ap (home_by (image Oneway es) id) (naming_oneway es small id);
     }
 
 -- ---- the image of a list of calls

@@ -25,7 +25,7 @@ use Rattle.lists.specs.Demand3.{image_of}
 use Rattle.lists.specs.Theorems.Readings.{Readings}
 use Rattle.lists.proofs.ImageRead.{named_in, Read}
 use Rattle.lists.proofs.ListPuts.{due_free}
-use Rattle.lists.proofs.CallLists.{two-way}
+use Rattle.lists.proofs.CallLists.{two_way_lem}
 use Rattle.lists.proofs.ReadingAnswered.{list_read}
 
 abbrev Free : Entry → Type 0
@@ -90,6 +90,6 @@ module _ (mode : Mode) (repeats : Repeats) (buffer : List ℕ) (room : head_size
 pub readings : Readings
 readings =
     record {
-      two-way = λ repeats buffer cs room. list_agrees Twoway repeats buffer room cs (two-way cs);
+      two_way_lem = λ repeats buffer cs room. list_agrees Twoway repeats buffer room cs (two_way_lem cs);
       one_way = λ repeats buffer cs room word. list_agrees Oneway repeats buffer room cs word;
     }

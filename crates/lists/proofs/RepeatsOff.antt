@@ -10,7 +10,7 @@ use borrow.Author.Tests.{eqb-true}
 use Rattle.image.specs.declared.Mode.{Mode}
 use Rattle.image.specs.Bytes.{filter}
 use Rattle.image.specs.Image.{Entry, head_size, has_name, contains_name, image}
-use Rattle.image.proofs.Lists.{filter_nil, filter-yes, filter-no, filter-append}
+use Rattle.image.proofs.Lists.{filter_nil, filter_yes, filter_no, filter-append}
 use Rattle.image.proofs.Equal.{same_true}
 use Rattle.image.proofs.Bools.{or_false_first, or_false_second}
 use Rattle.lookup_laws.specs.Answer.{of_name, first_id}
@@ -19,7 +19,7 @@ use Rattle.writer.specs.declared.Repeats.TheVariants.{Off}
 use Rattle.lists.specs.Calls.{Call, put, close, put_due, accepted_from, accepted, WordIds, put_all}
 use Rattle.lists.specs.Demand3.{accepted_puts, image_of}
 use Rattle.lists.specs.Theorems.RepeatsOff.{ListOff, RepeatsOff}
-use Rattle.lists.proofs.ListPuts.{due-new, due_either}
+use Rattle.lists.proofs.ListPuts.{due_new, due_either}
 use Rattle.lists.proofs.Members.{only_entry}
 use Rattle.lists.proofs.CallLists.{list_accepted, list_written}
 use Rattle.lists.proofs.PutsAgain.{again, again_accepted, again_there, words_again}
@@ -32,7 +32,7 @@ none_named : (name : List ℕ) (es : List Entry) → contains_name name es ≡ f
 unfolding contains_name of_name
 none_named name [] h = filter_nil (has_name name)
 none_named name (e ∷ es) h =
-    filter-no (has_name name) e es (or_false_first (has_name name e) (contains_name name es) h)
+    filter_no (has_name name) e es (or_false_first (has_name name e) (contains_name name es) h)
     ∙ none_named name es (or_false_second (has_name name e) (contains_name name es) h)
 
 -- one put more of a name that is new
@@ -51,8 +51,8 @@ one_more name es e new once = one_by_name (has_name name e) refl
     one_by_name true h =
         let same_name = same_true e.name name h in
         let none : of_name name es ≡ [] = ap (λ (l : List ℕ). of_name l es) (sym same_name) ∙ none_named e.name es new in
-        omega (arith, long, ap length none, ap length (filter-yes (has_name name) e [] h), ap length (filter_nil (has_name name)))
-    one_by_name false h = omega (arith, long, ap length (filter-no (has_name name) e [] h), ap length (filter_nil (has_name name)))
+        omega (arith, long, ap length none, ap length (filter_yes (has_name name) e [] h), ap length (filter_nil (has_name name)))
+    one_by_name false h = omega (arith, long, ap length (filter_no (has_name name) e [] h), ap length (filter_nil (has_name name)))
 
 module _ (mode : Mode) (n : ℕ) where
   once_from : (name : List ℕ) (es : List Entry) (cs : List Call) → length (of_name name es) ≤ 1 → length (of_name name (accepted_from mode Off n es cs)) ≤ 1
@@ -63,7 +63,7 @@ module _ (mode : Mode) (n : ℕ) where
     where
       once_by_due : (b : Bool) → eqb (put_due mode Off n es e) 0 ≡ b → length (of_name name (es ++ cond b (e ∷ []) [])) ≤ 1
       once_by_due true d =
-          one_more name es e (sym (and-true (contains_name e.name es)) ∙ due-new mode Off n es e (eqb-true (put_due mode Off n es e) 0 d)) once
+          one_more name es e (sym (and-true (contains_name e.name es)) ∙ due_new mode Off n es e (eqb-true (put_due mode Off n es e) 0 d)) once
       once_by_due false d = rw (append-nil es) once
 
   once : (name : List ℕ) (cs : List Call) → length (of_name name (accepted mode Off n cs)) ≤ 1
@@ -85,10 +85,10 @@ put_all-append (e ∷ es) fs = ap (λ (cs : List Call). put e ∷ cs) (put_all-a
 
 -- ---- the theorem
 
-pub same-image : (mode : Mode) (repeats₁ : Repeats) (buffer₁ : List ℕ) (cs₁ : List Call) (repeats₂ : Repeats) (buffer₂ : List ℕ) (cs₂ : List Call)
+pub same_image : (mode : Mode) (repeats₁ : Repeats) (buffer₁ : List ℕ) (cs₁ : List Call) (repeats₂ : Repeats) (buffer₂ : List ℕ) (cs₂ : List Call)
     → head_size ≤ length buffer₁ → head_size ≤ length buffer₂ → WordIds mode cs₁ → WordIds mode cs₂
     → accepted_puts mode repeats₁ buffer₁ cs₁ ≡ accepted_puts mode repeats₂ buffer₂ cs₂ → image_of mode repeats₁ buffer₁ cs₁ ≡ image_of mode repeats₂ buffer₂ cs₂
-same-image mode repeats₁ buffer₁ cs₁ repeats₂ buffer₂ cs₂ room₁ room₂ word₁ word₂ h =
+same_image mode repeats₁ buffer₁ cs₁ repeats₂ buffer₂ cs₂ room₁ room₂ word₁ word₂ h =
     calls_imaged mode repeats₁ buffer₁ cs₁ room₁ word₁ ∙ ap (image mode) h ∙ sym (calls_imaged mode repeats₂ buffer₂ cs₂ room₂ word₂)
 
 module _ (mode : Mode) (buffer : List ℕ) (cs : List Call) (room : head_size ≤ length buffer) (word : WordIds mode cs) where
@@ -119,8 +119,8 @@ module _ (mode : Mode) (buffer : List ℕ) (cs : List Call) (room : head_size �
         );
         puts_again = puts_again;
         image_again = λ repeats.
-            same-image mode repeats buffer (put_all (accepted_puts mode Off buffer cs)) Off buffer cs room room again_words word (puts_again repeats);
+            same_image mode repeats buffer (put_all (accepted_puts mode Off buffer cs)) Off buffer cs room room again_words word (puts_again repeats);
       }
 
 pub repeats_off : RepeatsOff
-repeats_off = record { list_off = list_off; same-image = same-image }
+repeats_off = record { list_off = list_off; same_image = same_image }

@@ -15,8 +15,8 @@ use Rattle.lists.specs.Demand3.{accepted_puts, image_of, CallsAnswered, OneList,
 use Rattle.lists.specs.Theorems.Corollaries.{Together, Corollaries}
 use Rattle.lists.specs.Theorems.AfterClose.{ReadingAnswered}
 use Rattle.lists.proofs.Members.{named_first, first_last, last_first}
-use Rattle.lists.proofs.CallLists.{two-way, list_begins, list_counts, list_answers, list_permitted, list_accepted}
-use Rattle.lists.proofs.OneMoreClose.{list_gives, list_formula, list_image, list_below, list_twice, none-accepted}
+use Rattle.lists.proofs.CallLists.{two_way_lem, list_begins, list_counts, list_answers, list_permitted, list_accepted}
+use Rattle.lists.proofs.OneMoreClose.{list_gives, list_formula, list_image, list_below, list_twice, none_accepted}
 use Rattle.lists.proofs.ReadingAnswered.{two_way_answered}
 
 -- ---- in either mode
@@ -48,11 +48,11 @@ module _ (repeats : Repeats) (buffer : List ℕ) (cs : List Call) (room : head_s
   -- each reading call answers by the accepted puts
   pub list_answered : ReadingAnswered (accepted_puts Twoway repeats buffer cs) (image_of Twoway repeats buffer cs)
   list_answered =
-      rw (calls_imaged Twoway repeats buffer cs room (two-way cs))
-      (two_way_answered (accepted_puts Twoway repeats buffer cs) (calls_below Twoway repeats buffer cs room (two-way cs)))
+      rw (calls_imaged Twoway repeats buffer cs room (two_way_lem cs))
+      (two_way_answered (accepted_puts Twoway repeats buffer cs) (calls_below Twoway repeats buffer cs room (two_way_lem cs)))
 
   pub one_list : OneList repeats buffer cs
-  one_list = record { calls = calls_answered Twoway repeats buffer cs room (two-way cs); names = list_answered.names; ids = list_answered.ids }
+  one_list = record { calls = calls_answered Twoway repeats buffer cs room (two_way_lem cs); names = list_answered.names; ids = list_answered.ids }
 
   together : Together (accepted_puts Twoway repeats buffer cs) (image_of Twoway repeats buffer cs)
   together =
@@ -70,17 +70,17 @@ module _ (repeats : Repeats) (buffer : List ℕ) (cs : List Call) (room : head_s
 
   pub corollaries : Corollaries repeats buffer cs
   corollaries =
-      let below = calls_below Twoway repeats buffer cs room (two-way cs) in
+      let below = calls_below Twoway repeats buffer cs room (two_way_lem cs) in
       record {
         together = together;
         name_stands = λ name.
-            ap (λ (bytes : List ℕ). found_offset (lookup bytes name)) (calls_imaged Twoway repeats buffer cs room (two-way cs))
+            ap (λ (bytes : List ℕ). found_offset (lookup bytes name)) (calls_imaged Twoway repeats buffer cs room (two_way_lem cs))
             ∙ name_stands Twoway (accepted_puts Twoway repeats buffer cs) below (ids_fit (accepted_puts Twoway repeats buffer cs) below) name;
         named_home = λ id name h. list_answered.homes id ∙ ap is_named (sym (list_answered.ids.id_gives id) ∙ h);
-        empty-image = λ h.
-            calls_imaged Twoway repeats buffer cs room (two-way cs)
-            ∙ ap (image Twoway) (list_accepted Twoway repeats buffer room cs (two-way cs) ∙ none-accepted Twoway repeats (length buffer) cs h);
-        closed-twice = list_twice Twoway repeats buffer room cs (two-way cs);
+        empty_image = λ h.
+            calls_imaged Twoway repeats buffer cs room (two_way_lem cs)
+            ∙ ap (image Twoway) (list_accepted Twoway repeats buffer room cs (two_way_lem cs) ∙ none_accepted Twoway repeats (length buffer) cs h);
+        closed_twice = list_twice Twoway repeats buffer room cs (two_way_lem cs);
       }
 
 pub two_lists : (repeats₁ : Repeats) (buffer₁ : List ℕ) (cs₁ : List Call) (repeats₂ : Repeats) (buffer₂ : List ℕ) (cs₂ : List Call)

@@ -12,7 +12,7 @@ use Rattle.image.specs.Bytes.{cat}
 use Rattle.image.specs.Image.{Entry, head_size, entry_bytes, entries_size, placed, count, back_size, back_in, back_size_of, image_size}
 use Rattle.image.specs.Stored.{whole, entries_in}
 use Rattle.image.proofs.AllOfRange.{all_true}
-use Rattle.image.proofs.Sizes.{length-placed, back_in-twice}
+use Rattle.image.proofs.Sizes.{length_placed, back_in_twice}
 use Rattle.writer.specs.declared.Repeats.{Repeats}
 use Rattle.writer.specs.State.{State, none_above, fits, counts_agree}
 use Rattle.writer.specs.Close.{entry_area, recorded, consistent, closed_size}
@@ -25,13 +25,13 @@ use Rattle.lists.proofs.Appended.{count_within}
 all_wordly : (es : List Entry) → back_size es ≤ 2 ^ 32 → entries_size es < 2 ^ 32 → AllWordSized es
 unfolding back_size entries_size
 all_wordly [] b s = tt
-all_wordly (e ∷ es) b s = (record { id_word = omega arith; length-word = omega arith }, all_wordly es (omega arith) (omega arith))
+all_wordly (e ∷ es) b s = (record { id_word = omega arith; length_word = omega arith }, all_wordly es (omega arith) (omega arith))
 
 -- ---- a written record fits
 
 module _ (mode : Mode) (repeats : Repeats) (n : ℕ) (es : List Entry) (s : State) (w : Written mode repeats n es s) where
   count_below : (k : ℕ) → k < 256 → get_or s.counts k 0 ≤ s.writer.entries
-  count_below k h = omega (arith, w.counts k h, count_within k (placed head_size es), length-placed head_size es, w.entries)
+  count_below k h = omega (arith, w.counts k h, count_within k (placed head_size es), length_placed head_size es, w.entries)
 
   pub written_fits : fits s ≡ true
   unfolding fits
@@ -39,7 +39,7 @@ module _ (mode : Mode) (repeats : Repeats) (n : ℕ) (es : List Entry) (s : Stat
       let none : none_above s.counts s.writer.entries ≡ true =
       all_true (λ (t : ℕ). leb (get_or s.counts t 0) s.writer.entries) 0 256
       (λ i h. le-leb (get_or s.counts (0 + i) 0) s.writer.entries (count_below (0 + i) (omega arith))) in
-      let cap : s.writer.length ≡ length s.buffer = w.length_is ∙ sym w.length-kept in
+      let cap : s.writer.length ≡ length s.buffer = w.length_is ∙ sym w.length_kept in
       let low : head_size ≤ s.writer.end = omega (arith, w.end) in
       let high : s.writer.end ≤ s.writer.length = omega (arith, w.end, w.length_is, w.within) in
       simp
@@ -66,7 +66,7 @@ module _ (mode : Mode) (repeats : Repeats) (n : ℕ) (es : List Entry) (s : Stat
   pub written_size : closed_size s ≡ image_size mode es
   written_size =
       let b : back_in s.writer.mode s.writer.back ≡ back_size_of mode es =
-      ap₂ back_in w.mode_is w.back-size ∙ back_in-twice mode (back_size es) in
+      ap₂ back_in w.mode_is w.back_size_lem ∙ back_in_twice mode (back_size es) in
       omega (arith, b, w.end, w.entries)
 
   -- ---- the decision
@@ -80,7 +80,7 @@ module _ (mode : Mode) (repeats : Repeats) (n : ℕ) (es : List Entry) (s : Stat
   back_right : eqb s.writer.back (back_in s.writer.mode (back_size (recorded s))) ≡ true
   back_right =
       eq-eqb s.writer.back (back_in s.writer.mode (back_size (recorded s)))
-      (w.back-size ∙ sym (ap₂ (λ (f : Mode) (l : List Entry). back_in f (back_size l)) w.mode_is written_recorded))
+      (w.back_size_lem ∙ sym (ap₂ (λ (f : Mode) (l : List Entry). back_in f (back_size l)) w.mode_is written_recorded))
 
   pub written_consistent : consistent s ≡ true
   written_consistent = simp (written_whole, counts_right, back_right)

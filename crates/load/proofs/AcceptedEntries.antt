@@ -15,8 +15,8 @@ use Rattle.writer.specs.Put.{put_refusal, after_put}
 use Rattle.lists.specs.Calls.{put, after, put_due, accepted, accepted_after, accepted_from, accepted_one, size_of}
 use Rattle.lists.specs.Demand3.{after_list}
 use Rattle.lists.proofs.Appended.{entries_size-snoc, back_size-snoc, size_of_is}
-use Rattle.lists.proofs.ListPuts.{put-due}
-use Rattle.lists.proofs.CallLists.{two-way, after-append, accepted-append, list_written}
+use Rattle.lists.proofs.ListPuts.{put_due_lem}
+use Rattle.lists.proofs.CallLists.{two_way_lem, after_append, accepted_append, list_written}
 use Rattle.lists.proofs.RepeatsOff.{put_all-append}
 use Rattle.load.specs.States.{state_after, load_entry}
 use Rattle.load.specs.Load.{put_from}
@@ -52,19 +52,19 @@ module _ (seed : ℕ) where
 
 -- ---- what is due to the next entry
 
-next-due : (n seed k : ℕ) → put_due Twoway On n (first_entries seed k) (load_entry seed k) ≡ cond (too_large n (head_size + 38 * suc k)) 3 0
+next_due : (n seed k : ℕ) → put_due Twoway On n (first_entries seed k) (load_entry seed k) ≡ cond (too_large n (head_size + 38 * suc k)) 3 0
 unfolding put_due first_entries load_entry
-next-due n seed k =
+next_due n seed k =
     rw (name_free (state_after seed (suc k)), and-false (contains_name (load_entry seed k).name (first_entries seed k)), first_size seed (suc k))
 
-pub due-none : (n seed k : ℕ) → head_size + 38 * suc k ≤ n → k < 4096 → put_due Twoway On n (first_entries seed k) (load_entry seed k) ≡ 0
-due-none n seed k room few =
+pub due_none : (n seed k : ℕ) → head_size + 38 * suc k ≤ n → k < 4096 → put_due Twoway On n (first_entries seed k) (load_entry seed k) ≡ 0
+due_none n seed k room few =
     let size : ℕ = head_size + 38 * suc k in
     let small : size ≤ 4294967295 = omega arith in
-    next-due n seed k ∙ rw (le-ltb n size room, le-ltb 4294967295 size small)
+    next_due n seed k ∙ rw (le-ltb n size room, le-ltb 4294967295 size small)
 
-pub due-three : (n seed k : ℕ) → n < head_size + 38 * suc k → put_due Twoway On n (first_entries seed k) (load_entry seed k) ≡ 3
-due-three n seed k full = next-due n seed k ∙ rw (lt-ltb n (head_size + 38 * suc k) full)
+pub due_three : (n seed k : ℕ) → n < head_size + 38 * suc k → put_due Twoway On n (first_entries seed k) (load_entry seed k) ≡ 3
+due_three n seed k full = next_due n seed k ∙ rw (lt-ltb n (head_size + 38 * suc k) full)
 
 -- ---- the accepted puts
 
@@ -72,17 +72,17 @@ module _ (seed : ℕ) (buffer : List ℕ) (room : head_size ≤ length buffer) w
   abbrev most : ℕ
   most = room_for (length buffer)
 
-  puts-next : (k : ℕ) → first_puts seed (suc k) ≡ first_puts seed k ++ (put (load_entry seed k) ∷ [])
+  puts_next : (k : ℕ) → first_puts seed (suc k) ≡ first_puts seed k ++ (put (load_entry seed k) ∷ [])
   unfolding first_puts
-  puts-next k = put_all-append (first_entries seed k) (load_entry seed k ∷ [])
+  puts_next k = put_all-append (first_entries seed k) (load_entry seed k ∷ [])
 
-  accepted-next : (k : ℕ) → put_due Twoway On (length buffer) (first_entries seed k) (load_entry seed k) ≡ 0
+  accepted_next : (k : ℕ) → put_due Twoway On (length buffer) (first_entries seed k) (load_entry seed k) ≡ 0
       → accepted Twoway On (length buffer) (first_puts seed k) ≡ first_entries seed k
       → accepted Twoway On (length buffer) (first_puts seed (suc k)) ≡ first_entries seed (suc k)
   unfolding accepted first_puts first_entries accepted_from
-  accepted-next k due before =
-      ap (accepted_from Twoway On (length buffer) []) (puts-next k)
-      ∙ accepted-append Twoway On (length buffer) [] (first_puts seed k) (put (load_entry seed k) ∷ [])
+  accepted_next k due before =
+      ap (accepted_from Twoway On (length buffer) []) (puts_next k)
+      ∙ accepted_append Twoway On (length buffer) [] (first_puts seed k) (put (load_entry seed k) ∷ [])
       ∙ ap (λ (es : List Entry). accepted_after Twoway On (length buffer) es (put (load_entry seed k))) before
       ∙ ap (λ (r : ℕ). first_entries seed k ++ accepted_one (put (load_entry seed k)) r) due
 
@@ -90,25 +90,25 @@ module _ (seed : ℕ) (buffer : List ℕ) (room : head_size ≤ length buffer) w
   unfolding accepted first_puts first_entries accepted_from
   accepted_first zero h = refl
   accepted_first (suc k) h =
-      accepted-next k (due-none (length buffer) seed k (omega arith) (omega arith)) (accepted_first k (omega arith))
+      accepted_next k (due_none (length buffer) seed k (omega arith) (omega arith)) (accepted_first k (omega arith))
 
   -- what the next entry is answered after the first k
   answered : (k : ℕ) → k ≤ room_for (length buffer)
       → put_refusal (after_list Twoway On buffer (first_puts seed k)) (load_entry seed k)
       ≡ put_due Twoway On (length buffer) (first_entries seed k) (load_entry seed k)
   answered k h =
-      put-due Twoway On (length buffer) (accepted Twoway On (length buffer) (first_puts seed k)) (after_list Twoway On buffer (first_puts seed k))
-      (list_written Twoway On buffer room (first_puts seed k) (two-way (first_puts seed k))) (load_entry seed k)
+      put_due_lem Twoway On (length buffer) (accepted Twoway On (length buffer) (first_puts seed k)) (after_list Twoway On buffer (first_puts seed k))
+      (list_written Twoway On buffer room (first_puts seed k) (two_way_lem (first_puts seed k))) (load_entry seed k)
       ∙ ap (λ (es : List Entry). put_due Twoway On (length buffer) es (load_entry seed k)) (accepted_first k h)
 
   pub after_next : (k : ℕ) → after_list Twoway On buffer (first_puts seed (suc k)) ≡ after_put (after_list Twoway On buffer (first_puts seed k)) (load_entry seed k)
   unfolding after
-  after_next k = ap (after_list Twoway On buffer) (puts-next k) ∙ after-append (fresh Twoway On buffer) (first_puts seed k) (put (load_entry seed k) ∷ [])
+  after_next k = ap (after_list Twoway On buffer) (puts_next k) ∙ after_append (fresh Twoway On buffer) (first_puts seed k) (put (load_entry seed k) ∷ [])
 
   -- fewer than 4,096 are accepted only where the next has no room
   pub stops_at : room_for (length buffer) < 4096
       → put_refusal (after_list Twoway On buffer (first_puts seed (room_for (length buffer)))) (load_entry seed (room_for (length buffer))) ≡ 3
-  stops_at few = answered most (omega arith) ∙ due-three (length buffer) seed most (omega arith)
+  stops_at few = answered most (omega arith) ∙ due_three (length buffer) seed most (omega arith)
 
   -- from the first i on, m more at most
   pub reached : (m i : ℕ) → i + m ≡ 4096 → i ≤ room_for (length buffer)
@@ -119,12 +119,12 @@ module _ (seed : ℕ) (buffer : List ℕ) (room : head_size ≤ length buffer) w
       elim (dec_lt i most) [
         | yes less ↦
             put_accepted seed m i (after_list Twoway On buffer (first_puts seed i))
-            (answered i low ∙ due-none (length buffer) seed i (omega arith) (omega arith))
+            (answered i low ∙ due_none (length buffer) seed i (omega arith) (omega arith))
             ∙ ap (put_from seed m (suc i)) (sym (after_next i))
             ∙ reached m (suc i) (omega arith) (omega arith)
         | no more ↦
             (let e : i ≡ most = omega arith in
             put_refused seed m i (after_list Twoway On buffer (first_puts seed i))
-            (λ z. let three = sym z ∙ answered i low ∙ due-three (length buffer) seed i (omega arith) in omega arith)
+            (λ z. let three = sym z ∙ answered i low ∙ due_three (length buffer) seed i (omega arith) in omega arith)
             ∙ ap (λ (k : ℕ). after_list Twoway On buffer (first_puts seed k)) e)
       ]

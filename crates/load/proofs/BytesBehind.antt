@@ -13,7 +13,7 @@ use Rattle.writer.specs.Put.{after_put}
 use Rattle.writer.proofs.Kept.{put_keeps_behind}
 use Rattle.lists.specs.Calls.{after, accepted}
 use Rattle.lists.specs.Demand3.{after_list}
-use Rattle.lists.proofs.CallLists.{two-way, list_written}
+use Rattle.lists.proofs.CallLists.{two_way_lem, list_written}
 use Rattle.load.specs.States.{load_entry}
 use Rattle.load.specs.Theorems.Rebuilt.{first_puts, room_for}
 use Rattle.load.proofs.AcceptedEntries.{entry_bytes, first_bytes, accepted_first, after_next}
@@ -30,7 +30,7 @@ module _ (seed : ℕ) (buffer : List ℕ) (room : head_size ≤ length buffer) (
 
   end_is : (k : ℕ) → k ≤ room_for (length buffer) → (left k).writer.end ≡ head_size + 18 * k
   end_is k h =
-      let w = list_written Twoway On buffer room (first_puts seed k) (two-way (first_puts seed k)) in
+      let w = list_written Twoway On buffer room (first_puts seed k) (two_way_lem (first_puts seed k)) in
       let size : entries_size (accepted Twoway On (length buffer) (first_puts seed k)) ≡ 18 * k =
       ap entries_size (accepted_first seed buffer room k h) ∙ first_bytes seed k in
       omega (arith, w.end)

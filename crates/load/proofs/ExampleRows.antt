@@ -20,7 +20,7 @@ pub rows : Rows
 unfolding state_name state_after
 rows =
     record {
-      first-name = refl;
+      first_name_lem = refl;
       full = row_holds (record { bytes = 157720; entries = 4096; size = 157720 }) (omega arith) refl refl;
       one_short = row_holds (record { bytes = 157719; entries = 4095; size = 157682 }) (omega arith) refl refl;
       empty = row_holds (record { bytes = 2072; entries = 0; size = 2072 }) (omega arith) refl refl;

@@ -43,8 +43,8 @@ name_free s =
 abbrev digit_read : ℕ → ℕ
 digit_read b = cond (ltb b 58) (b - 48) (b - 55)
 
-digit-read : (d : ℕ) → d < 16 → digit_read (hex_digit d) ≡ d
-digit-read d h = read_by_kind (ltb d 10) refl
+digit_read_lem : (d : ℕ) → d < 16 → digit_read (hex_digit d) ≡ d
+digit_read_lem d h = read_by_kind (ltb d 10) refl
   where
     read_by_kind : (t : Bool) → ltb d 10 ≡ t → digit_read (cond t (48 + d) (55 + d)) ≡ d
     read_by_kind true e =
@@ -72,7 +72,7 @@ word_digits s h =
 pub digits_read : (s : ℕ) → s < 2 ^ 32 → hex_from 0 (drop 1 (state_name s)) ≡ s
 unfolding state_name hex_from
 digits_read s h =
-    let back : (d : ℕ) → digit_read (hex_digit (d % 16)) ≡ d % 16 = λ d. digit-read (d % 16) (mod-lt d {m = 16} (omega arith)) in
+    let back : (d : ℕ) → digit_read (hex_digit (d % 16)) ≡ d % 16 = λ d. digit_read_lem (d % 16) (mod-lt d {m = 16} (omega arith)) in
     let d7 = back (s / 268435456) in
     let d6 = back (s / 16777216) in
     let d5 = back (s / 1048576) in

@@ -11,7 +11,7 @@ use borrow.Author.Tests.{lt-ltb}
 use Rattle.jhash.specs.Outcome.{value}
 use Rattle.image.specs.declared.Mode.TheVariants.{Twoway}
 use Rattle.image.specs.Image.{Entry, head_size, image_size, image}
-use Rattle.image.proofs.Sizes.{length-image}
+use Rattle.image.proofs.Sizes.{length_image}
 use Rattle.writer.specs.declared.Repeats.TheVariants.{On}
 use Rattle.writer.specs.State.{State, begin_refusal}
 use Rattle.writer.specs.Put.{put_refusal}
@@ -21,7 +21,7 @@ use Rattle.lists.specs.Demand3.{after_list, accepted_puts, image_of}
 use Rattle.lists.proofs.ListWritten.{Written}
 use Rattle.lists.proofs.Appended.{size_of_is}
 use Rattle.lists.proofs.ListCloses.{close_closed, closed_buffer}
-use Rattle.lists.proofs.CallLists.{two-way, list_accepted, list_written, begin_accepts}
+use Rattle.lists.proofs.CallLists.{two_way_lem, list_accepted, list_written, begin_accepts}
 use Rattle.lists.proofs.Theorem.{one_list, calls_answered}
 use Rattle.load.specs.States.{load_entry}
 use Rattle.load.specs.Load.{load_put, loading, after_load}
@@ -39,19 +39,19 @@ module _ (seed : ℕ) (buffer : List ℕ) (room : head_size ≤ length buffer) w
   left = after_list Twoway On buffer (first_puts seed k)
 
   stands : Written Twoway On (length buffer) (accepted Twoway On (length buffer) (first_puts seed k)) left
-  stands = list_written Twoway On buffer room (first_puts seed k) (two-way (first_puts seed k))
+  stands = list_written Twoway On buffer room (first_puts seed k) (two_way_lem (first_puts seed k))
 
   listed : load_put seed buffer ≡ left
   unfolding load_put first_puts after
   listed = reached seed buffer room 4096 0 refl (omega arith)
 
-  all-accepted : accepted_puts Twoway On buffer (first_puts seed k) ≡ first_entries seed k
-  all-accepted = list_accepted Twoway On buffer room (first_puts seed k) (two-way (first_puts seed k)) ∙ accepted_first seed buffer room k (omega arith)
+  all_accepted : accepted_puts Twoway On buffer (first_puts seed k) ≡ first_entries seed k
+  all_accepted = list_accepted Twoway On buffer room (first_puts seed k) (two_way_lem (first_puts seed k)) ∙ accepted_first seed buffer room k (omega arith)
 
   sized : closed_size left ≡ head_size + 38 * k
   sized =
-      (calls_answered Twoway On buffer (first_puts seed k) room (two-way (first_puts seed k))).sized
-      ∙ ap (size_of Twoway) all-accepted
+      (calls_answered Twoway On buffer (first_puts seed k) room (two_way_lem (first_puts seed k))).sized
+      ∙ ap (size_of Twoway) all_accepted
       ∙ first_size seed k
 
   begins : eqb (begin_refusal (length buffer)) 0 ≡ true
@@ -78,7 +78,7 @@ module _ (seed : ℕ) (buffer : List ℕ) (room : head_size ≤ length buffer) w
       ∙ ap (λ (s : State). s.buffer) (close_closed Twoway On (length buffer) es left stands)
       ∙ closed_buffer Twoway On (length buffer) es left stands in
       ap₂ drop (sym size) bytes
-      ∙ drop_at (image Twoway es) (drop (image_size Twoway es) left.buffer) (image_size Twoway es) (length-image Twoway es)
+      ∙ drop_at (image Twoway es) (drop (image_size Twoway es) left.buffer) (image_size Twoway es) (length_image Twoway es)
       ∙ ap (λ (m : ℕ). drop m left.buffer) size
       ∙ puts_behind seed buffer room (head_size + 38 * k) k (omega arith) (omega arith)
 
@@ -90,11 +90,11 @@ module _ (seed : ℕ) (buffer : List ℕ) (room : head_size ≤ length buffer) w
             ∙ ap (λ (s : State). value s.writer.entries) listed
             ∙ ap (λ (n : ℕ). value n) entries_left;
         listed = listed;
-        all-accepted = all-accepted;
+        all_accepted = all_accepted;
         demand3 = one_list On buffer (first_puts seed k) room;
         closes =
             ap closing listed
-            ∙ (calls_answered Twoway On buffer (first_puts seed k) room (two-way (first_puts seed k))).closes
+            ∙ (calls_answered Twoway On buffer (first_puts seed k) room (two_way_lem (first_puts seed k))).closes
             ∙ ap (λ (n : ℕ). value n) sized;
         imaged = imaged;
         kept = behind;

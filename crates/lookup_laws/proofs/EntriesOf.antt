@@ -12,10 +12,10 @@ use lib.ListN.{length}
 use Rattle.jhash.specs.NameHash.{hash_of}
 use Rattle.image.specs.Bytes.{filter, same}
 use Rattle.image.specs.Tables.{table_of}
-use Rattle.image.specs.Image.{Entry, Placed, entry_size, entries_size, placed, in_table, of_table, has_id}
+use Rattle.image.specs.Image.{Entry, Placed, entry_size, entries_size, placed, in_table_lem, of_table, has_id}
 use Rattle.reader.specs.Lookup.{Hit, Probe, pass, hit}
 use Rattle.consistency.specs.Matches.{Matches, matched, ended, any_match}
-use Rattle.lookup_laws.specs.Answer.{has_name, of_name, of_id, first_id, last_name, first_at}
+use Rattle.lookup_laws.specs.Answer.{has_name, of_name, of_id, first_id, last_name, first_at_lem}
 use Rattle.image.proofs.AllOfList.{All}
 use Rattle.image.proofs.Equal.{same_self, same_true, same_false}
 use Rattle.lookup_laws.proofs.Scan.{first_of, match_hits}
@@ -37,18 +37,18 @@ hits_of_name name o (e ∷ es) =
     cond (has_name name e) (hit_of_entry (record { entry = e; at = o }) ∷ hits_of_name name (o + entry_size e) es) (hits_of_name name (o + entry_size e) es)
 
 -- those of the name's table that a search for the name makes a hit of
-pub hits-of-name : (name : List ℕ) (o : ℕ) (es : List Entry)
+pub hits_of_name_lem : (name : List ℕ) (o : ℕ) (es : List Entry)
     → hits_in (map (probe_of_entry name) (of_table (table_of (hash_of name)) (placed o es))) ≡ hits_of_name name o es
 unfolding placed of_table filter hits_of_name
-hits-of-name name o [] = refl
-hits-of-name name o (e ∷ es) =
-    hits_with_first (same e.name name) refl (eqb (table_of (hash_of e.name)) (table_of (hash_of name))) refl (hits-of-name name (o + entry_size e) es)
+hits_of_name_lem name o [] = refl
+hits_of_name_lem name o (e ∷ es) =
+    hits_with_first (same e.name name) refl (eqb (table_of (hash_of e.name)) (table_of (hash_of name))) refl (hits_of_name_lem name (o + entry_size e) es)
   where
     p : Placed
     p = record { entry = e; at = o }
 
     K : List Placed
-    K = filter (in_table (table_of (hash_of name))) (placed (o + entry_size e) es)
+    K = filter (in_table_lem (table_of (hash_of name))) (placed (o + entry_size e) es)
 
     T : List Hit
     T = hits_of_name name (o + entry_size e) es
@@ -71,23 +71,23 @@ id_in t = t.id
 abbrev pub offset_in : Hit → ℕ
 offset_in t = t.offset
 
-pub first-id : (name : List ℕ) (o : ℕ) (es : List Entry) → Option.map id_in (first_of (hits_of_name name o es)) ≡ first_id (of_name name es)
+pub first_id_lem : (name : List ℕ) (o : ℕ) (es : List Entry) → Option.map id_in (first_of (hits_of_name name o es)) ≡ first_id (of_name name es)
 unfolding hits_of_name filter of_name
-first-id name o [] = refl
-first-id name o (e ∷ es) = id_with_first (has_name name e) (hits_of_name name (o + entry_size e) es) (first-id name (o + entry_size e) es)
+first_id_lem name o [] = refl
+first_id_lem name o (e ∷ es) = id_with_first (has_name name e) (hits_of_name name (o + entry_size e) es) (first_id_lem name (o + entry_size e) es)
   where
     id_with_first : (s : Bool) (T : List Hit) → Option.map id_in (first_of T) ≡ first_id (of_name name es)
         → Option.map id_in (first_of (cond s (hit_of_entry (record { entry = e; at = o }) ∷ T) T)) ≡ first_id (cond s (e ∷ of_name name es) (of_name name es))
     id_with_first true T ih = refl
     id_with_first false T ih = ih
 
-pub first-at : (name : List ℕ) (o : ℕ) (es : List Entry) → Option.map offset_in (first_of (hits_of_name name o es)) ≡ first_at name o es
-unfolding hits_of_name first_at
-first-at name o [] = refl
-first-at name o (e ∷ es) = offset_with_first (has_name name e) (hits_of_name name (o + entry_size e) es) (first-at name (o + entry_size e) es)
+pub first_at : (name : List ℕ) (o : ℕ) (es : List Entry) → Option.map offset_in (first_of (hits_of_name name o es)) ≡ first_at_lem name o es
+unfolding hits_of_name first_at_lem
+first_at name o [] = refl
+first_at name o (e ∷ es) = offset_with_first (has_name name e) (hits_of_name name (o + entry_size e) es) (first_at name (o + entry_size e) es)
   where
-    offset_with_first : (s : Bool) (T : List Hit) → Option.map offset_in (first_of T) ≡ first_at name (o + entry_size e) es
-        → Option.map offset_in (first_of (cond s (hit_of_entry (record { entry = e; at = o }) ∷ T) T)) ≡ cond s (some o) (first_at name (o + entry_size e) es)
+    offset_with_first : (s : Bool) (T : List Hit) → Option.map offset_in (first_of T) ≡ first_at_lem name (o + entry_size e) es
+        → Option.map offset_in (first_of (cond s (hit_of_entry (record { entry = e; at = o }) ∷ T) T)) ≡ cond s (some o) (first_at_lem name (o + entry_size e) es)
     offset_with_first true T ih = refl
     offset_with_first false T ih = ih
 
@@ -97,9 +97,9 @@ abbrev pub some_id : ℕ → List Hit → Bool
 some_id id [] = false
 some_id id (t ∷ ts) = eqb t.id id || some_id id ts
 
-pub any-match : (id : ℕ) (m : Matches) → any_match id m ≡ some_id id (match_hits m)
-any-match id (matched f rest) = ap (λ (b : Bool). eqb f.id id || b) (any-match id rest)
-any-match id (ended r) = refl
+pub any_match_lem : (id : ℕ) (m : Matches) → any_match id m ≡ some_id id (match_hits m)
+any_match_lem id (matched f rest) = ap (λ (b : Bool). eqb f.id id || b) (any_match_lem id rest)
+any_match_lem id (ended r) = refl
 
 or-true : (a b : Bool) → b ≡ true → (a || b) ≡ true
 or-true true b e = refl

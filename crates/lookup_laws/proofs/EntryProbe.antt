@@ -13,12 +13,12 @@ use Rattle.image.specs.Stored.{name_at, broken}
 use Rattle.reader.specs.Lookup.{pass, hit, probe_entry}
 use Rattle.reader.specs.Naming.{naming_at}
 use Rattle.image.proofs.At.{At}
-use Rattle.image.proofs.EntryAt.{entry_fits, id_word, length-word, name_bytes}
+use Rattle.image.proofs.EntryAt.{entry_fits, id_word, length_word, name_bytes}
 use Rattle.lookup_laws.specs.Answer.{bytes_at}
 
 module _ {img : List ℕ} {o : ℕ} (e : Entry) (a : At img o (entry_bytes e)) (small : length img ≤ 4294967295) where
   name_length : word img (o + 4) ≡ length e.name + 1
-  name_length = length-word e a (omega (arith, entry_fits e a))
+  name_length = length_word e a (omega (arith, entry_fits e a))
 
   whole_entry : broken img o ≡ false
   whole_entry =

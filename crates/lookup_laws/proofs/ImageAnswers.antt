@@ -14,15 +14,15 @@ use Rattle.image.specs.declared.Mode.TheVariants.{Twoway}
 use Rattle.reader.specs.Open.{opening}
 use Rattle.reader.specs.Lookup.{Lookup, found, nothing, lookup}
 use Rattle.reader.specs.declared.Found.{Found}
-use Rattle.lookup_laws.specs.Answer.{found_id, found_offset, name_given, of_name, of_id, table_puts, first_id, last_name, first_at}
+use Rattle.lookup_laws.specs.Answer.{found_id, found_offset, name_given, of_name, of_id, table_puts, first_id, last_name, first_at_lem}
 use Rattle.reader.specs.Cases.{reads}
-use Rattle.lookup_laws.proofs.ImageOpening.{opening-image}
+use Rattle.lookup_laws.proofs.ImageOpening.{opening_image}
 use Rattle.consistency.proofs.Homes.{lookup_first}
 use Rattle.consistency.specs.Matches.{matches_of, any_match}
 use Rattle.lookup_laws.proofs.Scan.{first_of, found_hit, first_hit}
-use Rattle.lookup_laws.proofs.EntriesOf.{hits_of_name, id_in, offset_in, first-id, first-at, some_id, any-match, named_hit}
+use Rattle.lookup_laws.proofs.EntriesOf.{hits_of_name, id_in, offset_in, first_id_lem, first_at, some_id, any_match_lem, named_hit}
 use Rattle.lookup_laws.proofs.ImageLookup.{matches_searched}
-use Rattle.lookup_laws.proofs.ImageNaming.{naming-image}
+use Rattle.lookup_laws.proofs.ImageNaming.{naming_image}
 
 -- ---- nothing is first or last of an empty list alone
 
@@ -55,7 +55,7 @@ hit_offset (nothing r) = refl
 module _ (mode : Mode) (es : List Entry) (fits : image_size mode es ≤ 4294967295) where
   -- it is opened, and num is the number of entries
   pub image_opens : opening (image mode es) ≡ value (length es)
-  image_opens = opening-image mode es fits
+  image_opens = opening_image mode es fits
 
   -- every id is a word where the back size, the largest id plus 1, is at most 2 ^ 32
   module _ (ids : back_size es ≤ 2 ^ 32) (name : List ℕ) where
@@ -69,12 +69,12 @@ module _ (mode : Mode) (es : List Entry) (fits : image_size mode es ≤ 42949672
     -- a name gives the id of its first entry, and nothing exactly when none has it
     pub name_gives : found_id (lookup (image mode es) name) ≡ first_id (of_name name es)
     name_gives =
-        hit_id (lookup (image mode es) name) ∙ ap (map id_in) found_first ∙ first-id name head_size es
+        hit_id (lookup (image mode es) name) ∙ ap (map id_in) found_first ∙ first_id_lem name head_size es
 
     -- 02 (ii): the found offset is the place of that entry
-    pub name_stands : found_offset (lookup (image mode es) name) ≡ first_at name head_size es
+    pub name_stands : found_offset (lookup (image mode es) name) ≡ first_at_lem name head_size es
     name_stands =
-        hit_offset (lookup (image mode es) name) ∙ ap (map offset_in) found_first ∙ first-at name head_size es
+        hit_offset (lookup (image mode es) name) ∙ ap (map offset_in) found_first ∙ first_at name head_size es
 
     pub name_nothing : (found_id (lookup (image mode es) name) ≡ none) ↔ (of_name name es ≡ [])
     name_nothing =
@@ -90,7 +90,7 @@ module _ (mode : Mode) (es : List Entry) (fits : image_size mode es ≤ 42949672
     -- 02 (vi): the search for the name that an id's last entry has meets that entry
     pub last_matches : (id : ℕ) → last_name (of_id id es) ≡ some name → any_match id (matches_of (image mode es) name) ≡ true
     last_matches id h =
-        any-match id (matches_of (image mode es) name)
+        any_match_lem id (matches_of (image mode es) name)
         ∙ ap (some_id id) (matches_searched mode es fits ids name).meets
         ∙ named_hit id name head_size es h
 
@@ -102,7 +102,7 @@ ids_fit es fits = omega arith
 module _ (es : List Entry) (fits : image_size Twoway es ≤ 4294967295) where
   -- an id gives exactly the name of its last entry, and nothing exactly when none has it
   pub id_gives : (id : ℕ) → name_given (image Twoway es) id ≡ last_name (of_id id es)
-  id_gives = naming-image es fits
+  id_gives = naming_image es fits
 
   pub id_nothing : (id : ℕ) → (name_given (image Twoway es) id ≡ none) ↔ (of_id id es ≡ [])
   id_nothing id =

@@ -13,27 +13,27 @@ use Rattle.jhash.specs.NameHash.{hash_of}
 use Rattle.jhash.proofs.Outcomes.{hash_of_below}
 use Rattle.image.specs.Bytes.{le32, same}
 use Rattle.image.specs.Tables.{Bucket, empty, table_of, start, probe_sequence, filled}
-use Rattle.image.specs.Image.{Entry, Placed, head_size, of_table, in_table, count, bucket_of, bucket_bytes, table, entries_before, table_offset, back_size}
+use Rattle.image.specs.Image.{Entry, Placed, head_size, of_table, in_table_lem, count, bucket_of, bucket_bytes, table, entries_before, table_offset, back_size}
 use Rattle.image.specs.Image.{entries_end, image_size, image}
 use Rattle.image.specs.declared.Mode.{Mode}
-use Rattle.image.proofs.Sizes.{length-image}
+use Rattle.image.proofs.Sizes.{length_image}
 use Rattle.reader.specs.Lookup.{nothing, Hit, Probe, pass, hit, probe_entry, probe_bucket, lookup}
 use Rattle.consistency.specs.Matches.{ended, matches_along, matches_in, matches_by_hash, matches_of, first_match}
 use Rattle.consistency.proofs.Homes.{lookup_first}
 use Rattle.lookup_laws.specs.Answer.{table_puts}
-use Rattle.image.proofs.AllOfList.{All, all_map, all_both, all_filter, all-image, map_ext}
-use Rattle.image.proofs.Buckets.{filled-all}
+use Rattle.image.proofs.AllOfList.{All, all_map, all_both, all_filter, all_image, map_ext}
+use Rattle.image.proofs.Buckets.{filled_all}
 use Rattle.lookup_laws.proofs.Scan.{Taken}
 use Rattle.lookup_laws.proofs.ProbeSequence.{matches_ext}
 use Rattle.lookup_laws.proofs.SearchFilling.{hits_in}
 use Rattle.lookup_laws.proofs.TableSearch.{probe_with, Searched, searched_same, searched}
 use Rattle.image.proofs.At.{at_left, at_word, at_second}
-use Rattle.image.proofs.Parts.{placed_in, most, table_at-image, bucket_number-image, bucket-at}
+use Rattle.image.proofs.Parts.{placed_in, most, table_at_image, bucket_number_image, bucket_at_lem}
 use Rattle.lookup_laws.proofs.ImageOpening.{long_enough, table_inside}
 use Rattle.image.proofs.EntryAt.{EntryAt, entry_fits, all_entries_at, all_placed, ids_below}
 use Rattle.lookup_laws.proofs.EntryProbe.{probe_entry_at}
 use Rattle.image.proofs.Equal.{same_true}
-use Rattle.lookup_laws.proofs.EntriesOf.{hit_of_entry, probe_of_entry, hits_of_name, hits-of-name, no_hits, names_short}
+use Rattle.lookup_laws.proofs.EntriesOf.{hit_of_entry, probe_of_entry, hits_of_name, hits_of_name_lem, no_hits, names_short}
 
 -- a search without a read meets nothing, where nothing is to be found
 pub nothing_searched : (hs : List Hit) (m : ℕ) → hs ≡ [] → Searched hs m (ended 0)
@@ -57,7 +57,7 @@ lookup_long image name h = lookup_first image name ∙ ap first_match (met_long 
 
 module _ (mode : Mode) (es : List Entry) (fits : image_size mode es ≤ 4294967295) (ids : back_size es ≤ 2 ^ 32) (name : List ℕ) where
   small : length (image mode es) ≤ 4294967295
-  small = omega (arith, length-image mode es)
+  small = omega (arith, length_image mode es)
 
   t_below : table_of (hash_of name) < 256
   t_below = mod-lt (hash_of name) (lit< tt)
@@ -75,7 +75,7 @@ module _ (mode : Mode) (es : List Entry) (fits : image_size mode es ≤ 42949672
   all_read : All Read qs
   unfolding qs of_table
   all_read =
-      all_filter Read (in_table (table_of (hash_of name))) (placed_in es)
+      all_filter Read (in_table_lem (table_of (hash_of name))) (placed_in es)
       (all_both (EntryAt (image mode es)) (λ (p : Placed). p.entry.id < 2 ^ 32) (placed_in es) (all_entries_at mode es)
       (all_placed (λ (e : Entry). e.id < 2 ^ 32) head_size es (ids_below es (2 ^ 32) ids)))
 
@@ -104,7 +104,7 @@ module _ (mode : Mode) (es : List Entry) (fits : image_size mode es ≤ 42949672
       taken_either_way false = tt
 
   all_taken : All (λ (b : Bucket). Taken (probe_with (hash_of name) v b)) (map bucket_of qs)
-  all_taken = all-image (λ (b : Bucket). Taken (probe_with (hash_of name) v b)) bucket_of taken_entry qs all_read
+  all_taken = all_image (λ (b : Bucket). Taken (probe_with (hash_of name) v b)) bucket_of taken_entry qs all_read
 
   looks : map (probe_with (hash_of name) v) (map bucket_of qs) ≡ map (probe_of_entry name) qs
   looks =
@@ -119,8 +119,8 @@ module _ (mode : Mode) (es : List Entry) (fits : image_size mode es ≤ 42949672
   bucket_words : (k : ℕ) → Words (get_or (table (table_of (hash_of name)) (placed_in es)) k empty)
   unfolding table qs
   bucket_words =
-      filled-all Words (2 * count (table_of (hash_of name)) (placed_in es)) (map bucket_of qs) (omega arith)
-      (all-image Words bucket_of (λ p r. (hash_of_below p.entry.name, omega (arith, small, entry_fits p.entry r.0.there))) qs all_read)
+      filled_all Words (2 * count (table_of (hash_of name)) (placed_in es)) (map bucket_of qs) (omega arith)
+      (all_image Words bucket_of (λ p r. (hash_of_below p.entry.name, omega (arith, small, entry_fits p.entry r.0.there))) qs all_read)
 
   at : ℕ
   at = entries_end es + 16 * entries_before (table_of (hash_of name)) (placed_in es)
@@ -133,7 +133,7 @@ module _ (mode : Mode) (es : List Entry) (fits : image_size mode es ≤ 42949672
   unfolding probe_bucket bucket_bytes n at v
   seen_bucket k i =
       let b = get_or (table (table_of (hash_of name)) (placed_in es)) k empty in
-      let a = bucket-at mode es fits (table_of (hash_of name)) k t_below i in
+      let a = bucket_at_lem mode es fits (table_of (hash_of name)) k t_below i in
       let w = bucket_words k in
       rw (at_word b.at (at_second b.hash b.at a) w.1, at_word b.hash (at_left (le32 b.hash) (le32 b.at) a) w.0)
 
@@ -145,7 +145,7 @@ module _ (mode : Mode) (es : List Entry) (fits : image_size mode es ≤ 42949672
 
   name_hits : hits_in (map (probe_with (hash_of name) v) (map bucket_of qs)) ≡ hits_of_name name head_size es
   unfolding qs
-  name_hits = ap hits_in looks ∙ hits-of-name name head_size es
+  name_hits = ap hits_in looks ∙ hits_of_name_lem name head_size es
 
   -- each bucket is seen as the table has it
   search_alike : 0 < count (table_of (hash_of name)) (placed_in es)
@@ -157,39 +157,39 @@ module _ (mode : Mode) (es : List Entry) (fits : image_size mode es ≤ 42949672
       (λ (k : ℕ). probe_with (hash_of name) v (get_or (table (table_of (hash_of name)) (placed_in es)) k empty))
       n seen_bucket n (start (hash_of name) n) 0 (mod-lt (hash_of name / 256) (omega arith))
 
-  in-table : 0 < count (table_of (hash_of name)) (placed_in es)
+  in_table : 0 < count (table_of (hash_of name)) (placed_in es)
       → Searched (hits_of_name name head_size es) (table_puts name es) (matches_in (image mode es) name (hash_of name) at n)
   unfolding n table_puts
-  in-table some-entry =
+  in_table some-entry =
       searched_same name_hits length_qs (sym (search_alike some-entry))
       (searched n (hash_of name) v (map bucket_of qs) (omega arith) (omega (arith, length_qs)) all_taken)
 
   -- ---- the table's row decides whether it is searched
 
   no_entry : count (table_of (hash_of name)) (placed_in es) ≡ 0 → hits_of_name name head_size es ≡ []
-  no_entry e = sym (hits-of-name name head_size es) ∙ none-no_hits (of_table (table_of (hash_of name)) (placed_in es)) e
+  no_entry e = sym (hits_of_name_lem name head_size es) ∙ none_no_hits (of_table (table_of (hash_of name)) (placed_in es)) e
     where
-      none-no_hits : (ps : List Placed) → length ps ≡ 0 → hits_in (map (probe_of_entry name) ps) ≡ []
-      none-no_hits [] z = refl
-      none-no_hits (p ∷ ps) z = absurd (omega arith)
+      none_no_hits : (ps : List Placed) → length ps ≡ 0 → hits_in (map (probe_of_entry name) ps) ≡ []
+      none_no_hits [] z = refl
+      none_no_hits (p ∷ ps) z = absurd (omega arith)
 
   by_count : (b : Bool) → eqb (count (table_of (hash_of name)) (placed_in es)) 0 ≡ b
       → Searched (hits_of_name name head_size es) (table_puts name es) (matches_by_hash (image mode es) name (hash_of name))
   unfolding matches_by_hash table_offset at n
   by_count true e =
-      rw (table_at-image mode es fits (table_of (hash_of name)) t_below, e)
+      rw (table_at_image mode es fits (table_of (hash_of name)) t_below, e)
       (nothing_searched (hits_of_name name head_size es) (table_puts name es) (no_entry (eqb-true (count (table_of (hash_of name)) (placed_in es)) 0 e)))
   by_count false e =
       let c : 0 < count (table_of (hash_of name)) (placed_in es) = let ne = eqb-false (count (table_of (hash_of name)) (placed_in es)) 0 e in omega arith in
       rw (
         table_inside mode es fits (table_of (hash_of name)) t_below,
-        table_at-image mode es fits (table_of (hash_of name)) t_below,
-        bucket_number-image mode es fits (table_of (hash_of name)) t_below,
+        table_at_image mode es fits (table_of (hash_of name)) t_below,
+        bucket_number_image mode es fits (table_of (hash_of name)) t_below,
         e,
         ne_eqb (entries_end es + 16 * entries_before (table_of (hash_of name)) (placed_in es)) 0 (λ z. omega arith),
         ne_eqb (2 * count (table_of (hash_of name)) (placed_in es)) 0 (λ z. omega arith),
       )
-      (in-table c)
+      (in_table c)
 
   pub matches_searched : Searched (hits_of_name name head_size es) (table_puts name es) (matches_of (image mode es) name)
   unfolding matches_of

@@ -13,14 +13,14 @@ use Rattle.image.specs.Bytes.{word, filter}
 use Rattle.image.specs.Image.{Entry, Placed, head_size, entry_size, placed, last_from, back_word, back_size, back_offset, entries_end, image_size, image}
 use Rattle.image.specs.Image.{has_id, placed_of_id}
 use Rattle.image.specs.declared.Mode.TheVariants.{Twoway, Oneway}
-use Rattle.image.proofs.Sizes.{length-image}
+use Rattle.image.proofs.Sizes.{length_image}
 use Rattle.image.specs.Head.{back_size_at}
 use Rattle.reader.specs.Naming.{unnamed, no_back, naming_at, naming}
 use Rattle.lookup_laws.specs.Answer.{bytes_at, name_given, of_id, last_name}
 use Rattle.image.proofs.AllOfList.{All, all_filter}
 use Rattle.image.proofs.At.{at_word}
 use Rattle.image.proofs.Parts.{placed_in, back_word_at}
-use Rattle.lookup_laws.proofs.ImageOpening.{back_size_at-image, back_offset_at-image, long_enough, back_inside}
+use Rattle.lookup_laws.proofs.ImageOpening.{back_size_at_image, back_offset_at_image, long_enough, back_inside}
 use Rattle.image.proofs.EntryAt.{EntryAt, entry_fits, all_entries_at}
 use Rattle.lookup_laws.proofs.EntryProbe.{named_entry}
 
@@ -31,10 +31,10 @@ unfolding of_id filter back_size
 none_of_id id [] h = refl
 none_of_id id (e ∷ es) h = rw (ne_eqb e.id id (λ z. omega arith)) (none_of_id id es (omega arith))
 
-placed-of-id : (id o : ℕ) (es : List Entry) → map (λ (p : Placed). p.entry) (placed_of_id id (placed o es)) ≡ of_id id es
+placed_of_id_lem : (id o : ℕ) (es : List Entry) → map (λ (p : Placed). p.entry) (placed_of_id id (placed o es)) ≡ of_id id es
 unfolding placed placed_of_id filter of_id
-placed-of-id id o [] = refl
-placed-of-id id o (e ∷ es) = entries_kept (eqb e.id id) (placed-of-id id (o + entry_size e) es)
+placed_of_id_lem id o [] = refl
+placed_of_id_lem id o (e ∷ es) = entries_kept (eqb e.id id) (placed_of_id_lem id (o + entry_size e) es)
   where
     K : List Placed
     K = filter (λ (p : Placed). has_id id p.entry) (placed (o + entry_size e) es)
@@ -52,15 +52,15 @@ last_name_from : Option (List ℕ) → List Entry → Option (List ℕ)
 last_name_from d [] = d
 last_name_from d (e ∷ es) = last_name_from (some e.name) es
 
-last_name : (d : Option (List ℕ)) (e : Entry) (es : List Entry) → last_name_from d (e ∷ es) ≡ last_name (e ∷ es)
+last_name_lem : (d : Option (List ℕ)) (e : Entry) (es : List Entry) → last_name_from d (e ∷ es) ≡ last_name (e ∷ es)
 unfolding last_name_from
-last_name d e [] = refl
-last_name d e (f ∷ es) = last_name (some e.name) f es
+last_name_lem d e [] = refl
+last_name_lem d e (f ∷ es) = last_name_lem (some e.name) f es
 
 last_of_all : (es : List Entry) → last_name_from none es ≡ last_name es
 unfolding last_name_from
 last_of_all [] = refl
-last_of_all (e ∷ es) = last_name none e es
+last_of_all (e ∷ es) = last_name_lem none e es
 
 -- ---- the last entry's name is held at its offset
 
@@ -88,25 +88,25 @@ module _ (img : List ℕ) (small : length img ≤ 4294967295) where
 
 module _ (es : List Entry) (fits : image_size Twoway es ≤ 4294967295) (id : ℕ) where
   img_small : length (image Twoway es) ≤ 4294967295
-  img_small = omega (arith, length-image Twoway es)
+  img_small = omega (arith, length_image Twoway es)
 
-  of-id : All (EntryAt (image Twoway es)) (placed_of_id id (placed_in es))
+  of_id_lem : All (EntryAt (image Twoway es)) (placed_of_id id (placed_in es))
   unfolding placed_of_id
-  of-id = all_filter (EntryAt (image Twoway es)) (λ (p : Placed). has_id id p.entry) (placed_in es) (all_entries_at Twoway es)
+  of_id_lem = all_filter (EntryAt (image Twoway es)) (λ (p : Placed). has_id id p.entry) (placed_in es) (all_entries_at Twoway es)
 
   pub back_word_named : bytes_at (image Twoway es) (naming_at (image Twoway es) (back_word (placed_in es) id)) ≡ last_name (of_id id es)
   unfolding back_word held
   back_word_named =
-      held_last (image Twoway es) img_small 0 (placed_of_id id (placed_in es)) of-id
+      held_last (image Twoway es) img_small 0 (placed_of_id id (placed_in es)) of_id_lem
       ∙ ap (λ (d : Option (List ℕ)). last_name_from d (map (λ (p : Placed). p.entry) (placed_of_id id (placed_in es)))) (held_none (image Twoway es) img_small)
-      ∙ ap (last_name_from none) (placed-of-id id head_size es)
+      ∙ ap (last_name_from none) (placed_of_id_lem id head_size es)
       ∙ last_of_all (of_id id es)
 
   back_word_read : id < back_size es → word (image Twoway es) (entries_end es + 16 * length es + 4 * id) ≡ back_word (placed_in es) id
   unfolding back_word
   back_word_read h =
       at_word (back_word (placed_in es) id) (back_word_at Twoway es fits id h)
-      (last_below (image Twoway es) img_small 0 (placed_of_id id (placed_in es)) (omega arith) of-id)
+      (last_below (image Twoway es) img_small 0 (placed_of_id id (placed_in es)) (omega arith) of_id_lem)
 
   back_there : 0 < back_size es → back_offset Twoway es ≡ entries_end es + 16 * length es
   unfolding back_offset
@@ -116,7 +116,7 @@ module _ (es : List Entry) (fits : image_size Twoway es ≤ 4294967295) (id : �
   beyond : back_size es ≤ id → name_given (image Twoway es) id ≡ none
   unfolding naming
   beyond h =
-      rw (le-leb (back_size_at (image Twoway es)) id (rw (back_size_at-image Twoway es fits) h)) (unnamed_either_way (no_back (image Twoway es)))
+      rw (le-leb (back_size_at (image Twoway es)) id (rw (back_size_at_image Twoway es fits) h)) (unnamed_either_way (no_back (image Twoway es)))
     where
       unnamed_either_way : (b : Bool) → bytes_at (image Twoway es) (cond b unnamed unnamed) ≡ none
       unnamed_either_way true = refl
@@ -128,8 +128,8 @@ module _ (es : List Entry) (fits : image_size Twoway es ≤ 4294967295) (id : �
       rw (
         long_enough Twoway es fits,
         back_inside Twoway es fits,
-        back_size_at-image Twoway es fits,
-        back_offset_at-image Twoway es fits,
+        back_size_at_image Twoway es fits,
+        back_offset_at_image Twoway es fits,
         back_there (omega arith),
         ne_eqb (entries_end es + 16 * length es) 0 (λ z. omega arith),
         lt-leb (back_size es) id h,
@@ -137,8 +137,8 @@ module _ (es : List Entry) (fits : image_size Twoway es ≤ 4294967295) (id : �
       )
       back_word_named
 
-  pub naming-image : name_given (image Twoway es) id ≡ last_name (of_id id es)
-  naming-image = by_back_size (dec_lt id (back_size es))
+  pub naming_image : name_given (image Twoway es) id ≡ last_name (of_id id es)
+  naming_image = by_back_size (dec_lt id (back_size es))
     where
       by_back_size : Dec (id < back_size es) → name_given (image Twoway es) id ≡ last_name (of_id id es)
       by_back_size (yes h) = within h
@@ -149,4 +149,4 @@ module _ (es : List Entry) (fits : image_size Twoway es ≤ 4294967295) (id : �
 -- a one-way image names no id
 pub naming_oneway : (es : List Entry) → image_size Oneway es ≤ 4294967295 → (id : ℕ) → naming (image Oneway es) id ≡ unnamed
 unfolding naming back_offset
-naming_oneway es fits id = rw (long_enough Oneway es fits, back_offset_at-image Oneway es fits)
+naming_oneway es fits id = rw (long_enough Oneway es fits, back_offset_at_image Oneway es fits)

@@ -12,12 +12,12 @@ use Rattle.jhash.specs.Outcome.{value}
 use Rattle.image.specs.Bytes.{word, le32}
 use Rattle.image.specs.Image.{Entry, head_size, count, entries_before, table_offset, flag_word, back_size_of, entries_end, image_size, back_offset, head_words, image}
 use Rattle.image.specs.declared.Mode.{Mode}
-use Rattle.image.proofs.Words.{length-le32}
-use Rattle.image.proofs.Sizes.{length-placed, before-suc, before-all, length-image}
+use Rattle.image.proofs.Words.{length_le32}
+use Rattle.image.proofs.Sizes.{length_placed, before_suc, before_all, length_image}
 use Rattle.image.specs.Head.{table_at, bucket_number, back_size_at, back_offset_at, table_past_end, back_past_end}
 use Rattle.reader.specs.Open.{some_past_end, num_from, has_letters, opening}
 use Rattle.image.proofs.At.{At, at_same, at_left, at_right, at_word}
-use Rattle.image.proofs.Parts.{placed_in, head_at, most, table_at-image, bucket_number-image}
+use Rattle.image.proofs.Parts.{placed_in, head_at, most, table_at_image, bucket_number_image}
 
 -- ---- the words of the head
 
@@ -68,25 +68,25 @@ module _ (mode : Mode) (es : List Entry) where
   magic_image = at_word magic (at_same twelve (at_right to_12 (le32 magic) four)) (omega arith)
     where
       twelve : 0 + length to_12 ≡ 12
-      twelve = simp (length-append, length-le32)
+      twelve = simp (length-append, length_le32)
 
   module _ (fits : image_size mode es ≤ 4294967295) where
     pub size_image : word (image mode es) 4 ≡ image_size mode es
     size_image = at_word (image_size mode es) (at_right letters (le32 (image_size mode es)) two) (omega arith)
 
-    pub back_size_at-image : back_size_at (image mode es) ≡ back_size_of mode es
+    pub back_size_at_image : back_size_at (image mode es) ≡ back_size_of mode es
     unfolding to_16
-    back_size_at-image = at_word (back_size_of mode es) (at_same sixteen (at_right to_16 (le32 (back_size_of mode es)) five)) (omega arith)
+    back_size_at_image = at_word (back_size_of mode es) (at_same sixteen (at_right to_16 (le32 (back_size_of mode es)) five)) (omega arith)
       where
         sixteen : 0 + length to_16 ≡ 16
-        sixteen = simp (length-append, length-le32)
+        sixteen = simp (length-append, length_le32)
 
-    pub back_offset_at-image : back_offset_at (image mode es) ≡ back_offset mode es
+    pub back_offset_at_image : back_offset_at (image mode es) ≡ back_offset mode es
     unfolding to_20 back_offset
-    back_offset_at-image = at_word (back_offset mode es) (at_same twenty (at_right to_20 (le32 (back_offset mode es)) six)) (below (eqb (back_size_of mode es) 0))
+    back_offset_at_image = at_word (back_offset mode es) (at_same twenty (at_right to_20 (le32 (back_offset mode es)) six)) (below (eqb (back_size_of mode es) 0))
       where
         twenty : 0 + length to_20 ≡ 20
-        twenty = simp (length-append, length-le32)
+        twenty = simp (length-append, length_le32)
 
         below : (b : Bool) → cond b 0 (entries_end es + 16 * length es) < 2 ^ 32
         below true = omega arith
@@ -95,13 +95,13 @@ module _ (mode : Mode) (es : List Entry) where
     -- ---- nothing reaches past the end of the image
 
     pub long_enough : ltb (length (image mode es)) head_size ≡ false
-    long_enough = le-ltb (length (image mode es)) head_size (omega (arith, length-image mode es))
+    long_enough = le-ltb (length (image mode es)) head_size (omega (arith, length_image mode es))
 
     pub table_inside : (t : ℕ) → t < 256 → table_past_end (image mode es) t ≡ false
     unfolding table_offset
     table_inside t h =
         le-ltb (length (image mode es)) (table_at (image mode es) t + 8 * bucket_number (image mode es) t)
-        (rw (table_at-image mode es fits t h, bucket_number-image mode es fits t h, length-image mode es) (some_table_inside (eqb (count t (placed_in es)) 0)))
+        (rw (table_at_image mode es fits t h, bucket_number_image mode es fits t h, length_image mode es) (some_table_inside (eqb (count t (placed_in es)) 0)))
       where
         some_table_inside : (b : Bool) → cond b 0 (entries_end es + 16 * entries_before t (placed_in es)) + 8 * (2 * count t (placed_in es)) ≤ image_size mode es
         some_table_inside true = omega (arith, most mode es fits t h)
@@ -111,7 +111,7 @@ module _ (mode : Mode) (es : List Entry) where
     unfolding back_offset
     back_inside =
         le-ltb (length (image mode es)) (back_offset_at (image mode es) + 4 * back_size_at (image mode es))
-        (rw (back_offset_at-image, back_size_at-image, length-image mode es) (back_array_inside (eqb (back_size_of mode es) 0)))
+        (rw (back_offset_at_image, back_size_at_image, length_image mode es) (back_array_inside (eqb (back_size_of mode es) 0)))
       where
         back_array_inside : (b : Bool) → cond b 0 (entries_end es + 16 * length es) + 4 * back_size_of mode es ≤ image_size mode es
         back_array_inside true = omega arith
@@ -127,16 +127,16 @@ module _ (mode : Mode) (es : List Entry) where
 
     -- ---- the number of entries
 
-    num_from-image : (m t : ℕ) → t + m ≤ 256 → entries_before t (placed_in es) + num_from (image mode es) t m ≡ entries_before (t + m) (placed_in es)
+    num_from_image : (m t : ℕ) → t + m ≤ 256 → entries_before t (placed_in es) + num_from (image mode es) t m ≡ entries_before (t + m) (placed_in es)
     unfolding num_from
-    num_from-image zero t h =
+    num_from_image zero t h =
         let e : t ≡ t + 0 = omega arith in
         rw (← e) (omega arith)
-    num_from-image (suc m) t h =
+    num_from_image (suc m) t h =
         let e : suc t + m ≡ t + suc m = omega arith in
-        let s = before-suc t (placed_in es) in
-        let b = bucket_number-image mode es fits t (omega arith) in
-        let i = num_from-image m (suc t) (omega arith) in
+        let s = before_suc t (placed_in es) in
+        let b = bucket_number_image mode es fits t (omega arith) in
+        let i = num_from_image m (suc t) (omega arith) in
         rw (← e)
         (sum (bucket_number (image mode es) t) (count t (placed_in es)) (entries_before t (placed_in es)) (entries_before (suc t) (placed_in es))
         (num_from (image mode es) (suc t) m) (entries_before (suc t + m) (placed_in es)) b s i)
@@ -148,14 +148,14 @@ module _ (mode : Mode) (es : List Entry) where
     unfolding entries_before
     none_before = refl
 
-    num_from-all : num_from (image mode es) 0 256 ≡ length es
-    num_from-all =
-        let i : entries_before 0 (placed_in es) + num_from (image mode es) 0 256 ≡ entries_before 256 (placed_in es) = num_from-image 256 0 (omega arith) in
-        omega (arith, none_before, before-all (placed_in es), length-placed head_size es)
+    num_from_all : num_from (image mode es) 0 256 ≡ length es
+    num_from_all =
+        let i : entries_before 0 (placed_in es) + num_from (image mode es) 0 256 ≡ entries_before 256 (placed_in es) = num_from_image 256 0 (omega arith) in
+        omega (arith, none_before, before_all (placed_in es), length_placed head_size es)
 
-    pub opening-image : opening (image mode es) ≡ value (length es)
+    pub opening_image : opening (image mode es) ≡ value (length es)
     unfolding opening
-    opening-image =
+    opening_image =
         rw (
           long_enough,
           letters_image,
@@ -163,6 +163,6 @@ module _ (mode : Mode) (es : List Entry) where
           tables_inside 256 0 (omega arith),
           back_inside,
           and-false (ltb 0 (back_offset_at (image mode es))),
-          num_from-all,
+          num_from_all,
         )
         (ap value (mod-eq_of_lt (omega arith)))

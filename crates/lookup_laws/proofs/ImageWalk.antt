@@ -16,7 +16,7 @@ use Rattle.reader.specs.Naming.{Naming, place, unnamed, slice_or, name_or, namin
 use Rattle.reader.specs.IdWalk.{step_of, step, upper_hint}
 use Rattle.consistency.specs.Home.{home_by, home}
 use Rattle.lookup_laws.specs.Answer.{bytes_at, name_given, step_given, is_named}
-use Rattle.lookup_laws.proofs.ImageOpening.{back_size_at-image, back_offset_at-image, long_enough, back_inside}
+use Rattle.lookup_laws.proofs.ImageOpening.{back_size_at_image, back_offset_at_image, long_enough, back_inside}
 
 -- ---- in any bytes, by what an id gives
 
@@ -33,10 +33,10 @@ module _ (img : List ℕ) (id : ℕ) where
   step_held (place s n) = refl
   step_held unnamed = refl
 
-  pub step_given : (given : Option (List ℕ)) → name_given img id ≡ given
+  pub step_given_lem : (given : Option (List ℕ)) → name_given img id ≡ given
       → step_given img (step img id) ≡ map (λ (name : List ℕ). record { name = name; id = id }) given
   unfolding step
-  step_given given h = step_held (naming img id) ∙ ap (map (λ (name : List ℕ). record { name = name; id = id })) h
+  step_given_lem given h = step_held (naming img id) ∙ ap (map (λ (name : List ℕ). record { name = name; id = id })) h
 
   -- the search for a name that is held meets an entry with this id
   abbrev MetIf : Option (List ℕ) → Type 0
@@ -55,7 +55,7 @@ module _ (img : List ℕ) (id : ℕ) where
 pub hint_image : (mode : Mode) (es : List Entry) → image_size mode es ≤ 4294967295 → (n : ℕ) → upper_hint (image mode es) n ≡ back_size_of mode es - n
 unfolding upper_hint back_offset
 hint_image mode es fits n =
-    rw (long_enough mode es fits, back_inside mode es fits, back_size_at-image mode es fits, back_offset_at-image mode es fits)
+    rw (long_enough mode es fits, back_inside mode es fits, back_size_at_image mode es fits, back_offset_at_image mode es fits)
     (by_back_array (eqb (back_size_of mode es) 0) refl)
   where
     by_back_array : (b : Bool) → eqb (back_size_of mode es) 0 ≡ b

@@ -13,7 +13,7 @@ use Rattle.image.specs.Bytes.{filter, same}
 use Rattle.image.specs.Image.{Entry, has_id, image_size, image}
 use Rattle.image.specs.declared.Mode.TheVariants.{Twoway}
 use Rattle.image.proofs.Bools.{chose_first}
-use Rattle.image.proofs.Lists.{filter_nil, filter-yes, filter-no}
+use Rattle.image.proofs.Lists.{filter_nil, filter_yes, filter_no}
 use Rattle.reader.specs.Lookup.{lookup}
 use Rattle.lookup_laws.specs.Answer.{found_id, name_given, has_name, of_name, of_id, first_id, last_name}
 use Rattle.image.proofs.Equal.{same_self, same_true}
@@ -28,9 +28,9 @@ module _ {A : Type 0} (f g : A → Bool) where
     where
       swap_with_first : (s : Bool) → f x ≡ s → (t : Bool) → g x ≡ t → filter f (filter g xs) ≡ filter g (filter f xs)
           → filter f (cond t (x ∷ filter g xs) (filter g xs)) ≡ filter g (cond s (x ∷ filter f xs) (filter f xs))
-      swap_with_first true p true q ih = filter-yes f x (filter g xs) p ∙ ap (λ (l : List A). x ∷ l) ih ∙ sym (filter-yes g x (filter f xs) q)
-      swap_with_first true p false q ih = ih ∙ sym (filter-no g x (filter f xs) q)
-      swap_with_first false p true q ih = filter-no f x (filter g xs) p ∙ ih
+      swap_with_first true p true q ih = filter_yes f x (filter g xs) p ∙ ap (λ (l : List A). x ∷ l) ih ∙ sym (filter_yes g x (filter f xs) q)
+      swap_with_first true p false q ih = ih ∙ sym (filter_no g x (filter f xs) q)
+      swap_with_first false p true q ih = filter_no f x (filter g xs) p ∙ ih
       swap_with_first false p false q ih = ih
 
 -- where at most one stands, and one passes, it is that one
@@ -59,7 +59,7 @@ module _ (es : List Entry) (names : (name : List ℕ) → length (of_name name e
       let k : filter (has_name name) (of_id id es) ≡ x ∷ [] =
       sym (swapped name id es)
       ∙ ap (filter (has_id id)) e
-      ∙ filter-yes (has_id id) x [] (eq-eqb x.id id i)
+      ∙ filter_yes (has_id id) x [] (eq-eqb x.id id i)
       ∙ ap (λ (l : List Entry). x ∷ l) (filter_nil (has_id id)) in
       let one = keep_one (has_name name) x (of_id id es) (ids id) k in
       ap last_name one.0 ∙ ap {B = Option (List ℕ)} some (same_true x.name name one.1)
@@ -73,7 +73,7 @@ module _ (es : List Entry) (names : (name : List ℕ) → length (of_name name e
       let k : filter (has_id id) (of_name name es) ≡ x ∷ [] =
       swapped name id es
       ∙ ap (filter (has_name name)) e
-      ∙ filter-yes (has_name name) x [] t
+      ∙ filter_yes (has_name name) x [] t
       ∙ ap (λ (l : List Entry). x ∷ l) (filter_nil (has_name name)) in
       let one = keep_one (has_id id) x (of_name name es) (names name) k in
       ap first_id one.0 ∙ ap {B = Option ℕ} some (eqb-true x.id id one.1)

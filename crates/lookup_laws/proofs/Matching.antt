@@ -65,8 +65,8 @@ module _ (h : ℕ) (v : ℕ → Bool) where
   abbrev Other : Bucket → Type 0
   Other b = b.hash ≡ h → v b.at ≡ false
 
-  no-cons : {x : Hit} {w : List Hit} {A : Type 0} → x ∷ w ≡ [] → A
-  no-cons e = let z : ◌≡◌ {A = ℕ} 1 0 = cc (ap length e) in absurd (omega arith)
+  no_cons : {x : Hit} {w : List Hit} {A : Type 0} → x ∷ w ≡ [] → A
+  no_cons e = let z : ◌≡◌ {A = ℕ} 1 0 = cc (ap length e) in absurd (omega arith)
 
   -- entries without a hit are others
   others : (bs : List Bucket) → All NotEmpty bs → hits_in (map (probe_with h probe_of_entry) bs) ≡ [] → All Other bs
@@ -78,7 +78,7 @@ module _ (h : ℕ) (v : ℕ → Bool) where
 
       first_other : (q : Bool) → eqb b.hash h ≡ q → (t : Bool) → v b.at ≡ t → hit_of (cond q (cond t (hit (hit_at b.at)) pass) pass) ++ hits_in w ≡ []
           → (hits_in w ≡ [] → All Other bs) → Other b × All Other bs
-      first_other true p true r e rest = no-cons e
+      first_other true p true r e rest = no_cons e
       first_other true p false r e rest = (λ z. r, rest e)
       first_other false p t r e rest = (λ z. absurd (false_not_true (sym p ∙ eq-eqb b.hash h z)), rest e)
 

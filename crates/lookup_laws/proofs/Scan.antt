@@ -138,20 +138,20 @@ idx_empty (hit told ∷ w) h = idx_empty w (omega arith)
 
 -- ---- an entry goes into an empty bucket
 
-no-empty : {A : Type 0} (x : Probe) → Taken x → x ≡ ends → A
-no-empty pass t e = let z : ◌≡◌ {A = ℕ} 0 1 = cc in absurd (omega arith)
-no-empty ends t e = absurd t
-no-empty (hit told) t e = let z : ◌≡◌ {A = ℕ} 0 1 = cc in absurd (omega arith)
+no_empty : {A : Type 0} (x : Probe) → Taken x → x ≡ ends → A
+no_empty pass t e = let z : ◌≡◌ {A = ℕ} 0 1 = cc in absurd (omega arith)
+no_empty ends t e = absurd t
+no_empty (hit told) t e = let z : ◌≡◌ {A = ℕ} 0 1 = cc in absurd (omega arith)
 
 pub used_set : (w : List Probe) (j : ℕ) (x : Probe) → Taken x → get_or w j pass ≡ ends → used (set w j x) ≡ suc (used w)
-used_set [] j x t e = no-empty pass tt e
-used_set (pass ∷ w) zero x t e = no-empty pass tt e
+used_set [] j x t e = no_empty pass tt e
+used_set (pass ∷ w) zero x t e = no_empty pass tt e
 used_set (pass ∷ w) (suc j) x t e = ap suc (used_set w j x t e)
 used_set (ends ∷ w) zero pass t e = refl
 used_set (ends ∷ w) zero ends t e = absurd t
 used_set (ends ∷ w) zero (hit told) t e = refl
 used_set (ends ∷ w) (suc j) x t e = used_set w j x t e
-used_set (hit told ∷ w) zero x t e = no-empty (hit told) tt e
+used_set (hit told ∷ w) zero x t e = no_empty (hit told) tt e
 used_set (hit told ∷ w) (suc j) x t e = ap suc (used_set w j x t e)
 
 -- the first empty one
@@ -195,5 +195,5 @@ other_hits (pass ∷ w) zero e g = refl
 other_hits (pass ∷ w) (suc j) e g = other_hits w j e g
 other_hits (ends ∷ w) zero e g = clear_hits w g
 other_hits (ends ∷ w) (suc j) e g = refl
-other_hits (hit told ∷ w) zero e g = no-empty (hit told) tt e
+other_hits (hit told ∷ w) zero e g = no_empty (hit told) tt e
 other_hits (hit told ∷ w) (suc j) e g = ap (λ (l : List Hit). told ∷ l) (other_hits w j e g)

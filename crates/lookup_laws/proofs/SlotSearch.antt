@@ -13,7 +13,7 @@ use lib.Dec.{eqb}
 use lib.ListN.{length, get_or, set}
 use Rattle.image.specs.Tables.{Bucket, empty, at_of, start, next, probe_sequence, first_empty, insert, filled, Filled}
 use Rattle.image.proofs.AllOfList.{All}
-use Rattle.image.proofs.Buckets.{length-probe_sequence, probe_sequence-step, first_empty_ext}
+use Rattle.image.proofs.Buckets.{length-probe_sequence, probe_sequence_step, first_empty_ext}
 use Rattle.image.proofs.Sizes.{filled_more}
 use Rattle.reader.specs.Lookup.{Probe, pass, ends}
 use Rattle.lookup_laws.specs.Steps.HasMatch.{has_match}
@@ -63,15 +63,15 @@ module _ {b : ℕ → Bucket} {v : ℕ → Bool} {h m left k : ℕ} (s : Remaini
     -- what the slot decides
     empty_turn : cond (eqb (b k).at 0) k (first_empty offsets rest) ≡ first_empty offsets all
     unfolding first_empty
-    empty_turn = sym (ap (first_empty offsets) (probe_sequence-step m left k more)) ∙ s.first
+    empty_turn = sym (ap (first_empty offsets) (probe_sequence_step m left k more)) ∙ s.first
 
     match_turn : cond (eqb (b k).at 0) false (cond (eqb (b k).hash h && v (b k).at) true (has_match b h v rest)) ≡ has_match b h v all
     unfolding has_match
-    match_turn = sym (ap (has_match b h v) (probe_sequence-step m left k more)) ∙ s.same_match
+    match_turn = sym (ap (has_match b h v) (probe_sequence_step m left k more)) ∙ s.same_match
 
     -- an empty slot ends the search
-    pub first-empty : (b k).at ≡ 0 → k ≡ first_empty offsets all
-    first-empty z = sym (ap (λ (t : Bool). cond t k (first_empty offsets rest)) (eq-eqb (b k).at 0 z)) ∙ empty_turn
+    pub first_empty_lem : (b k).at ≡ 0 → k ≡ first_empty offsets all
+    first_empty_lem z = sym (ap (λ (t : Bool). cond t k (first_empty offsets rest)) (eq-eqb (b k).at 0 z)) ∙ empty_turn
 
     pub none_matches : (b k).at ≡ 0 → has_match b h v all ≡ false
     none_matches z =
@@ -91,7 +91,7 @@ module _ {b : ℕ → Bucket} {v : ℕ → Bool} {h m left k : ℕ} (s : Remaini
               ∙ sym (ap (λ (t : Bool). cond t true (has_match b h v rest)) (not_equal (b k) h v other))
               ∙ sym (ap (λ (t : Bool). cond t false (cond (eqb (b k).hash h && v (b k).at) true (has_match b h v rest))) (ne_eqb (b k).at 0 full))
               ∙ match_turn;
-          passed = λ taken. s.passed (rw (probe_sequence-step m left k more) (full, rw e at taken));
+          passed = λ taken. s.passed (rw (probe_sequence_step m left k more) (full, rw e at taken));
         }
 
 -- ---- a filled table
@@ -156,8 +156,8 @@ module _ {m : ℕ} {b : ℕ → Bucket} {bs : List Bucket} (slots : Filled m b b
       filled_used looked sees m (start h m) (mod-lt (h / 256) some) apart bs fit full
 
   -- none is: there is an entry for each
-  pub none-empty : All (λ (j : ℕ). NotEmpty (b j)) (probe_sequence m m (start h m)) → m ≤ length bs
-  none-empty all =
+  pub none_empty : All (λ (j : ℕ). NotEmpty (b j)) (probe_sequence m m (start h m)) → m ≤ length bs
+  none_empty all =
       elim (ℕ_discrete m 0) [
         | yes z ↦ omega (arith, z)
         | no z ↦ by (omega (arith, z))

@@ -7,7 +7,7 @@ use native.Mathlib.Nat.{mod-lt}
 use native.Mathlib.Omega.{arith}
 use lib.ListN.{length, get_or, set, replicate, length-replicate}
 use Rattle.image.specs.Tables.{Bucket, empty, start, probe_sequence, insert, insert_all, filled}
-use Rattle.image.proofs.Sizes.{length-insert}
+use Rattle.image.proofs.Sizes.{length_insert}
 use Rattle.reader.specs.Lookup.{Hit, Probe, pass, ends}
 use Rattle.image.proofs.AllOfList.{All}
 use Rattle.image.proofs.Buckets.{get_or_empties}
@@ -84,7 +84,7 @@ module _ (f : Bucket → Probe) (sees : EndsAtEmpty f) (n s₀ : ℕ) (inside : 
 
     one_more : TableContents f n s₀ (insert n table b) (suc m)
     one_more = record {
-      sized = length-insert n table b ∙ held.sized;
+      sized = length_insert n table b ∙ held.sized;
       counts = λ s h. one_more_used s h (any s h);
       good = good_more (apart b full);
     }

@@ -18,7 +18,7 @@ use Rattle.consistency.specs.Matches.{Matches, matches_along, first_match}
 use Rattle.reader.specs.declared.Found.{Found}
 use Rattle.reader.specs.Cases.{reads}
 use Rattle.image.proofs.AllOfList.{All, all_map, map_ext}
-use Rattle.image.proofs.Buckets.{filled-all}
+use Rattle.image.proofs.Buckets.{filled_all}
 use Rattle.lookup_laws.proofs.Scan.{matches_scan, scan_hits, scan_reads, scan_found, hits, match_hits, used, Taken}
 use Rattle.lookup_laws.proofs.ProbeSequence.{view}
 use Rattle.lookup_laws.proofs.SearchFilling.{hits_in, EndsAtEmpty}
@@ -102,7 +102,7 @@ module _ (n h : ℕ) (v : ℕ → Probe) (bs : List Bucket) (some-bucket : 0 < n
   unfolding view f seen
   seen_view =
       ap (λ (g : ℕ → Probe). map g (probe_sequence n n (start h n)))
-      (fun_ext λ k. filled-all (λ (b : Bucket). f b ≡ probe_with h v b) n bs refl (all_map (no_ends h v) bs each) k)
+      (fun_ext λ k. filled_all (λ (b : Bucket). f b ≡ probe_with h v b) n bs refl (all_map (no_ends h v) bs each) k)
 
   inside : start h n < n
   inside = mod-lt (h / 256) some-bucket

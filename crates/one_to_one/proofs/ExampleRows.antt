@@ -18,7 +18,7 @@ use Rattle.one_to_one.specs.OneToOne.{Failure, first_failure}
 use Rattle.one_to_one.specs.Theorems.Theorem.{kind_among}
 use Rattle.one_to_one.specs.Examples.Rows.{OneToOneRow, RowAnswered, one_to_one_rows, NoBytes}
 use Rattle.one_to_one.proofs.Answers.{refused, never_refused}
-use Rattle.one_to_one.proofs.Pairs.{by-puts}
+use Rattle.one_to_one.proofs.Pairs.{by_puts_lem}
 
 -- what is computed of a row: its names have no zero byte, its ids and the size of its image are words, and the answer by its puts
 abbrev Free : Entry → Type 0
@@ -33,7 +33,7 @@ Computed r =
 holds : (r : OneToOneRow) → Computed r → RowAnswered r
 holds r c =
     let each : All Storable r.puts = all_map (λ (e : Entry) (p : Free e). record { free = p.0; id_word = p.1 }) r.puts c.0 in
-    by-puts (image r.mode r.puts) (record { mode = r.mode; puts = r.puts; each = each; fits = c.1; is = refl })
+    by_puts_lem (image r.mode r.puts) (record { mode = r.mode; puts = r.puts; each = each; fits = c.1; is = refl })
     ∙ ap {B = Outcome (Option Failure)} value c.2
 
 computed : All Computed one_to_one_rows

@@ -24,7 +24,7 @@ use Rattle.lists.proofs.RepeatsOff.{repeats_off}
 use Rattle.canonical.specs.Canonical.{mode_in}
 use Rattle.canonical.specs.Steps.Made.{Made}
 use Rattle.canonical.proofs.ListImages.{list_made, list_puts}
-use Rattle.canonical.proofs.ReadBack.{made-puts, canonical_only}
+use Rattle.canonical.proofs.ReadBack.{made_puts, canonical_only}
 use Rattle.one_to_one.specs.OneToOne.{one_to_one}
 use Rattle.one_to_one.specs.Theorems.Theorem.{SameId, OneId}
 use Rattle.one_to_one.specs.Theorems.Exchanges.{HasOldName, BothFound, ExchangesFound}
@@ -74,7 +74,7 @@ module _ (mode : Mode) (buffer : List ℕ) (cs : List Call) (room : head_size �
   m = list_made mode Off buffer room cs word
 
   puts_are : m.puts ≡ puts
-  puts_are = sym (made-puts new m) ∙ list_puts mode Off buffer room cs word
+  puts_are = sym (made_puts new m) ∙ list_puts mode Off buffer room cs word
 
   of_named : (P : Entry → Type 0) (name : List ℕ) → All P (of_name name puts) → All (λ (f : Entry). has_name name f ≡ true → P f) puts
   unfolding of_name
@@ -98,12 +98,12 @@ module _ (mode : Mode) (buffer : List ℕ) (cs : List Call) (room : head_size �
 
 pub exchanges : ExchangesFound
 exchanges = record {
-  one-to-one = λ old new bytes one.
+  one_to_one_lem = λ old new bytes one.
       let m = canonical_only new bytes (accepted new none one) in
       both_found old new m (ids_of new m one);
   one_id = λ old new bytes own ids.
       let m = canonical_only new bytes own in
-      both_found old new m (rw (made-puts new m) at ids);
+      both_found old new m (rw (made_puts new m) at ids);
   repeats_off = λ old mode buffer cs room word.
       both_found old (image_of mode Off buffer cs) (m mode buffer cs room word) (off_ids mode buffer cs room word);
   moved_exactly = λ old new bytes two one id other.

@@ -44,10 +44,10 @@ module _ (kind : Entry → ℕ) where
       ∙ after_passed (o + entry_size x) before e es k all.1 h n
       ∙ ap (λ (y : ℕ). some (failure k y)) s
 
-  pub none-fails : (o : ℕ) (es : List Entry) → All (λ (x : Entry). kind x ≡ 0) es → first_failure kind o es ≡ none
+  pub none_fails : (o : ℕ) (es : List Entry) → All (λ (x : Entry). kind x ≡ 0) es → first_failure kind o es ≡ none
   unfolding first_failure
-  none-fails o [] all = refl
-  none-fails o (e ∷ es) all = passes o e es all.0 ∙ none-fails (o + entry_size e) es all.1
+  none_fails o [] all = refl
+  none_fails o (e ∷ es) all = passes o e es all.0 ∙ none_fails (o + entry_size e) es all.1
 
   -- where nothing fails, no entry does
   pub all_pass : (o : ℕ) (es : List Entry) → first_failure kind o es ≡ none → All (λ (x : Entry). kind x ≡ 0) es

@@ -23,26 +23,26 @@ use Rattle.lists.proofs.ImageRead.{Read, named_in}
 use Rattle.lists.proofs.ReadingAnswered.{list_read}
 use Rattle.canonical.specs.Canonical.{canonical, puts_in, mode_in}
 use Rattle.canonical.specs.Steps.Made.{Made}
-use Rattle.canonical.proofs.ListImages.{words, accepted-all, made_closes, made_room}
-use Rattle.canonical.proofs.ReadBack.{made-puts, made_mode, canonical-yes}
+use Rattle.canonical.proofs.ListImages.{words, accepted_all, made_closes, made_room}
+use Rattle.canonical.proofs.ReadBack.{made_puts, made_mode, canonical_yes}
 use Rattle.one_to_one.specs.OneToOne.{is_id, is_name, asked, kind_of, kind_in, Failure, first_failure, first_failure_in, one_to_one}
 use Rattle.one_to_one.specs.Theorems.Theorem.{Paired, FindsOther, GivesOther, Fails, Inverse, kind_among, SameId, SameName, OneId, OneName}
 use Rattle.one_to_one.proofs.Answers.{answered, first_is}
-use Rattle.one_to_one.proofs.Failures.{none-fails, all_pass, same_kinds}
-use Rattle.one_to_one.proofs.Puts.{each_in, at_one, name_first, id_last, first_entry, last_entry}
+use Rattle.one_to_one.proofs.Failures.{none_fails, all_pass, same_kinds}
+use Rattle.one_to_one.proofs.Puts.{each_in, at_one, name_first, id_last, first_entry_lem, last_entry}
 
 -- ---- the tests
 
-is-id : (o : Option ℕ) (id : ℕ) → is_id o id ≡ true → o ≡ some id
-is-id none id h = absurd (false_not_true h)
-is-id (some i) id h = ap {B = Option ℕ} some (eqb-true i id h)
+is_id_lem : (o : Option ℕ) (id : ℕ) → is_id o id ≡ true → o ≡ some id
+is_id_lem none id h = absurd (false_not_true h)
+is_id_lem (some i) id h = ap {B = Option ℕ} some (eqb-true i id h)
 
 id_is : (o : Option ℕ) (id : ℕ) → o ≡ some id → is_id o id ≡ true
 id_is o id h = ap (λ (x : Option ℕ). is_id x id) h ∙ eq-eqb id id refl
 
-is_name : (o : Option (List ℕ)) (name : List ℕ) → is_name o name ≡ true → o ≡ some name
-is_name none name h = absurd (false_not_true h)
-is_name (some n) name h = ap {B = Option (List ℕ)} some (same_true n name h)
+is_name_lem : (o : Option (List ℕ)) (name : List ℕ) → is_name o name ≡ true → o ≡ some name
+is_name_lem none name h = absurd (false_not_true h)
+is_name_lem (some n) name h = ap {B = Option (List ℕ)} some (same_true n name h)
 
 name_is : (o : Option (List ℕ)) (name : List ℕ) → o ≡ some name → is_name o name ≡ true
 name_is o name h = ap (λ (x : Option (List ℕ)). is_name x name) h ∙ same_self name
@@ -66,8 +66,8 @@ module _ (img : List ℕ) (e : Entry) where
       let gives = is_name (name_given img e.id) e.name in
       let both = kind_zero finds (asked (mode_in img) gives) h in
       record {
-        finds = is-id (found_id (lookup img e.name)) e.id both.0;
-        gives = λ m. is_name (name_given img e.id) e.name (ap (λ (x : Mode). asked x gives) (sym m) ∙ both.1);
+        finds = is_id_lem (found_id (lookup img e.name)) e.id both.0;
+        gives = λ m. is_name_lem (name_given img e.id) e.name (ap (λ (x : Mode). asked x gives) (sym m) ∙ both.1);
       }
 
   pub paired_zero : Paired img e → kind_in img e ≡ 0
@@ -85,7 +85,7 @@ pub paired_yes : (img : List ℕ) → canonical img ≡ true → All (Paired img
 unfolding first_failure_in
 paired_yes img own all =
     answered img own
-    ∙ ap {B = Outcome (Option Failure)} value (none-fails (kind_in img) head_size (puts_in img) (all_map (paired_zero img) (puts_in img) all))
+    ∙ ap {B = Outcome (Option Failure)} value (none_fails (kind_in img) head_size (puts_in img) (all_map (paired_zero img) (puts_in img) all))
 
 -- ---- of an image that puts made
 
@@ -93,7 +93,7 @@ module _ (img : List ℕ) (m : Made img) where
   read : Read m.mode m.puts img
   read =
       let room : length img ≤ length img = omega arith in
-      rw (accepted-all img m img room, made_closes img m img room) at
+      rw (accepted_all img m img room, made_closes img m img room) at
       (list_read m.mode On img (made_room img m img room) (put_all m.puts) (words m.mode m.puts m.each))
 
   pub finds_first : (name : List ℕ) → found_id (lookup img name) ≡ first_id (of_name name m.puts)
@@ -102,9 +102,9 @@ module _ (img : List ℕ) (m : Made img) where
   pub gives_last : mode_in img ≡ Twoway → (id : ℕ) → name_given img id ≡ last_name (of_id id m.puts)
   gives_last t id = read.id_gives id ∙ ap (λ (x : Mode). named_in x m.puts id) (sym (made_mode img m) ∙ t)
 
-  kind-among : (e : Entry) → kind_in img e ≡ kind_among m.mode m.puts e
+  kind_among_lem : (e : Entry) → kind_in img e ≡ kind_among m.mode m.puts e
   unfolding kind_in
-  kind-among e =
+  kind_among_lem e =
       ap₂ kind_of (ap (λ (o : Option ℕ). is_id o e.id) (finds_first e.name))
       (ap (λ (x : Mode). asked x (is_name (name_given img e.id) e.name)) (made_mode img m) ∙ asked_alike m.mode (read.id_gives e.id))
     where
@@ -113,18 +113,18 @@ module _ (img : List ℕ) (m : Made img) where
       asked_alike Twoway h = ap (λ (o : Option (List ℕ)). is_name o e.name) h
       asked_alike Oneway h = refl
 
-  pub by-puts : one_to_one img ≡ value (first_failure (kind_among m.mode m.puts) head_size m.puts)
+  pub by_puts_lem : one_to_one img ≡ value (first_failure (kind_among m.mode m.puts) head_size m.puts)
   unfolding first_failure_in
-  by-puts =
-      answered img (canonical-yes img m)
+  by_puts_lem =
+      answered img (canonical_yes img m)
       ∙ ap {B = Outcome (Option Failure)} value
-      (ap (first_failure (kind_in img) head_size) (made-puts img m)
-      ∙ same_kinds (kind_in img) (kind_among m.mode m.puts) kind-among head_size m.puts)
+      (ap (first_failure (kind_in img) head_size) (made_puts img m)
+      ∙ same_kinds (kind_in img) (kind_among m.mode m.puts) kind_among_lem head_size m.puts)
 
   -- yes, by the puts
   pub yes_one : one_to_one img ≡ value none → OneId m.puts × (m.mode ≡ Twoway → OneName m.puts)
   yes_one h =
-      let all : All (Paired img) m.puts = rw (made-puts img m) at (yes_paired img h) in (
+      let all : All (Paired img) m.puts = rw (made_puts img m) at (yes_paired img h) in (
         all_map (λ (e : Entry) (p : Paired img e). all_map (λ (f : Entry) (q : Paired img f). one_id e f p q) m.puts all) m.puts all,
         λ t. all_map (λ (e : Entry) (p : Paired img e). all_map (λ (f : Entry) (q : Paired img f). one_name t e f p q) m.puts all) m.puts all,
       )
@@ -143,13 +143,13 @@ module _ (img : List ℕ) (m : Made img) where
   own_found ids e i =
       let all = at_one (λ (x : Entry). All (SameId x) m.puts) e m.puts ids i in
       let first = name_first m.puts e i in
-      let f = first_entry m.puts (SameId e) all e.name first.0 first.1 in
+      let f = first_entry_lem m.puts (SameId e) all e.name first.0 first.1 in
       finds_first e.name ∙ first.1 ∙ ap {B = Option ℕ} some (sym f.3 ∙ sym (f.1 (sym f.2)))
 
   pub one_yes : OneId m.puts → (m.mode ≡ Twoway → OneName m.puts) → one_to_one img ≡ value none
   one_yes ids names =
-      paired_yes img (canonical-yes img m)
-      (rw (made-puts img m)
+      paired_yes img (canonical_yes img m)
+      (rw (made_puts img m)
       (all_map (λ (e : Entry) (i : Memᴰ e m.puts). record { finds = own_found ids e i; gives = λ t. gives t e i }) m.puts (each_in m.puts)))
     where
       gives : mode_in img ≡ Twoway → (e : Entry) → Memᴰ e m.puts → name_given img e.id ≡ some e.name
@@ -176,9 +176,9 @@ module _ (img : List ℕ) (m : Made img) where
   -- where the answer is yes, lookup and naming are inverse
   pub inverse : mode_in img ≡ Twoway → one_to_one img ≡ value none → Inverse img
   inverse t h name id =
-      let all : All (Paired img) m.puts = rw (made-puts img m) at (yes_paired img h) in (
+      let all : All (Paired img) m.puts = rw (made_puts img m) at (yes_paired img h) in (
         λ q.
-            let f = first_entry m.puts (Paired img) all name id (sym (finds_first name) ∙ q) in
+            let f = first_entry_lem m.puts (Paired img) all name id (sym (finds_first name) ∙ q) in
             ap (name_given img) (sym f.3) ∙ f.1.gives t ∙ ap {B = Option (List ℕ)} some f.2,
         λ q.
             let f = last_entry m.puts (Paired img) all name id (sym (gives_last t id) ∙ q) in
@@ -206,8 +206,8 @@ module _ (img : List ℕ) (m : Made img) where
             let g = id_last m.puts e i in
             let given = gives_last t e.id ∙ g.1 in
             record {
-              finds = is-id (found_id (lookup img e.name)) e.id f;
-              two-way = t;
+              finds = is_id_lem (found_id (lookup img e.name)) e.id f;
+              two_way_lem = t;
               other = g.0;
               given = given;
               another = λ q. false_not_true (sym n ∙ name_is (name_given img e.id) e.name (given ∙ ap {B = Option (List ℕ)} some q));
@@ -234,6 +234,6 @@ kind_fails img k e (inl (z, f)) =
 kind_fails img k e (inr (z, g)) =
     let own = id_is (found_id (lookup img e.name)) e.id g.finds in
     let no_name =
-    ap₂ (λ (x : Mode) (o : Option (List ℕ)). asked x (is_name o e.name)) g.two-way g.given
+    ap₂ (λ (x : Mode) (o : Option (List ℕ)). asked x (is_name o e.name)) g.two_way_lem g.given
     ∙ same_false g.other e.name g.another in
     (ap₂ kind_of own no_name ∙ sym z, λ q. omega arith)

@@ -99,9 +99,9 @@ module _ (es : List Entry) where
 
   -- it is that of an entry of the list, of which holds what holds of each
   module _ (P : Entry → Type 0) (all : All P es) (name : List ℕ) (id : ℕ) where
-    pub first_entry : first_id (of_name name es) ≡ some id → (e : Entry) × P e × (e.name ≡ name) × (e.id ≡ id)
+    pub first_entry_lem : first_id (of_name name es) ≡ some id → (e : Entry) × P e × (e.name ≡ name) × (e.id ≡ id)
     unfolding of_name
-    first_entry h =
+    first_entry_lem h =
         let f = first_of (λ (e : Entry). P e × (has_name name e ≡ true)) (filter (has_name name) es) id (kept (has_name name) P es all) h in
         (f.0, f.1.0, same_true f.0.name name f.1.1, f.2)
 

@@ -20,7 +20,7 @@ use Rattle.lists.specs.Demand3.{accepted_puts, image_of}
 use Rattle.canonical.specs.Canonical.{puts_in}
 use Rattle.canonical.specs.Steps.Made.{Made}
 use Rattle.canonical.proofs.ListImages.{list_made, list_puts, list_mode}
-use Rattle.canonical.proofs.ReadBack.{made-puts, made_mode, canonical_only}
+use Rattle.canonical.proofs.ReadBack.{made_puts, made_mode, canonical_only}
 use Rattle.one_to_one.specs.OneToOne.{kind_in, Failure, first_failure, first_failure_in, one_to_one}
 use Rattle.one_to_one.specs.Theorems.Theorem.{Fails, First, OneId, OneName, OneToOneOfList, OneToOneHolds}
 use Rattle.one_to_one.proofs.Answers.{refused, answered, accepted, first_is}
@@ -74,7 +74,7 @@ module _ (img : List ℕ) where
       ∙ (λ i. some (record { kind = f.kind; offset = sym r.offset_is i }))
 
   all_said : Made img → All Said (puts_in img)
-  all_said m = rw (made-puts img m) (all_map (pairs.fails img m) m.puts (each_in m.puts))
+  all_said m = rw (made_puts img m) (all_map (pairs.fails img m) m.puts (each_in m.puts))
 
 -- ---- lists of calls
 
@@ -85,19 +85,19 @@ module _ (mode : Mode) (repeats : Repeats) (buffer : List ℕ) (cs : List Call) 
   of_list : OneToOneOfList mode (accepted_puts mode repeats buffer cs) img
   of_list =
       let m = list_made mode repeats buffer room cs word in
-      let puts : m.puts ≡ accepted_puts mode repeats buffer cs = sym (made-puts img m) ∙ list_puts mode repeats buffer room cs word in
+      let puts : m.puts ≡ accepted_puts mode repeats buffer cs = sym (made_puts img m) ∙ list_puts mode repeats buffer room cs word in
       let direction : m.mode ≡ mode = sym (made_mode img m) ∙ list_mode mode repeats buffer room cs word in
       let exactly : (one_to_one img ≡ value none) ↔ (OneId m.puts × (m.mode ≡ Twoway → OneName m.puts)) =
       (pairs.yes_one img m, λ h. pairs.one_yes img m h.0 h.1) in
       record {
         yes_exactly = rw (puts, direction) at exactly;
-        by-puts = rw (puts, direction) at (pairs.by-puts img m);
+        by_puts_lem = rw (puts, direction) at (pairs.by_puts_lem img m);
         inverse = λ t. pairs.inverse img m (list_mode mode repeats buffer room cs word ∙ t);
       }
 
-pub one-to-one : OneToOneHolds
+pub one_to_one_lem : OneToOneHolds
 unfolding first_failure_in first_failure
-one-to-one =
+one_to_one_lem =
     record {
       refused = refused;
       empty = λ img own none_there. answered img own ∙ ap (λ (es : List Entry). value (first_failure (kind_in img) head_size es)) none_there;

@@ -75,8 +75,8 @@ module _ {img : List ℕ} {at left len : ℕ} {name : List ℕ} {id : ℕ} {find
     other_name f = fails 2 (kind_is ∙ ap (kind_of true) f) (λ z. omega arith)
 
     -- both hold, and the walk goes on after it
-    pub walk-on : gives ≡ true → Ahead (First img) img (at + (8 + len)) (left - 1)
-    walk-on t =
+    pub walk_on : gives ≡ true → Ahead (First img) img (at + (8 + len)) (left - 1)
+    walk_on t =
         let next : at + entry_size e ≡ at + (8 + len) = omega (arith, length_is step.turn step.len_is) in
         ahead_next step.turn step.len_is
         (ap (λ (o : ℕ). first_failure (kind_in img) o step.turn.rest) (sym next)

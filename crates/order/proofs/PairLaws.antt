@@ -54,13 +54,13 @@ module _ (p : Pair) (round : List ℕ) (i : ℕ) where
 
 -- ---- the list's first pair, which has the place n
 module _ (n : ℕ) (p : Pair) (ps : List Pair) (round : List ℕ) where
-  pub ordered-kept : kept p round ≡ true → ordered_from n (p ∷ ps) round ≡ ordered_from (suc n) ps round
+  pub ordered_kept : kept p round ≡ true → ordered_from n (p ∷ ps) round ≡ ordered_from (suc n) ps round
   unfolding ordered_from
-  ordered-kept k = simp k
+  ordered_kept k = simp k
 
-  pub ordered-fails : kept p round ≡ false → ordered_from n (p ∷ ps) round ≡ fails_at n
+  pub ordered_fails : kept p round ≡ false → ordered_from n (p ∷ ps) round ≡ fails_at n
   unfolding ordered_from
-  ordered-fails k = simp k
+  ordered_fails k = simp k
 
 -- ---- the pairs from the place i on; d stands behind the last
 module _ (pairs : List Pair) (round : List ℕ) (d : Pair) (i : ℕ) where
@@ -73,7 +73,7 @@ module _ (pairs : List Pair) (round : List ℕ) (d : Pair) (i : ℕ) where
     from_pair = ap (λ (ps : List Pair). ordered_from i ps round) (drop-cons pairs i d h)
 
     pub pairs_on : kept (get_or pairs i d) round ≡ true → ordered_from i (drop i pairs) round ≡ ordered_from (suc i) (drop (suc i) pairs) round
-    pairs_on k = from_pair ∙ ordered-kept i (get_or pairs i d) (drop (suc i) pairs) round k
+    pairs_on k = from_pair ∙ ordered_kept i (get_or pairs i d) (drop (suc i) pairs) round k
 
     pub pairs_fail : kept (get_or pairs i d) round ≡ false → ordered_from i (drop i pairs) round ≡ fails_at i
-    pairs_fail k = from_pair ∙ ordered-fails i (get_or pairs i d) (drop (suc i) pairs) round k
+    pairs_fail k = from_pair ∙ ordered_fails i (get_or pairs i d) (drop (suc i) pairs) round k

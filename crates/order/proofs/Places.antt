@@ -10,7 +10,7 @@ use mathlib.Core.Option.{none, some}
 use Rattle.order.specs.Rule.{occurs, kept, all_kept, fails_at, ordered_from}
 use Rattle.order.specs.Theorems.Places.{At, FirstAt, PairKept, AllKept, FailsFirst}
 use Rattle.order.specs.declared.Pair.{Pair}
-use Rattle.order.proofs.PairLaws.{at_wall, at_reference, at_other, ordered-kept, ordered-fails}
+use Rattle.order.proofs.PairLaws.{at_wall, at_reference, at_other, ordered_kept, ordered_fails}
 
 -- nothing stands past the end, and one thing at a place
 pub nothing_there : {A : Type 0} {x : A} → ¬ (none ≡ some x)
@@ -90,8 +90,8 @@ module _ (p : Pair) (ps : List Pair) (round : List ℕ) where
       least zero q h a = subst (λ (r : Pair). PairKept r round) (stands a) kp
       least (suc i) q h a = f.least i q (omega arith) a
 
-  fails-tail : (k : ℕ) → FailsFirst (p ∷ ps) round (suc k) → FailsFirst ps round k
-  fails-tail k f = record { pair = f.pair; here = f.here; fails = f.fails; least = λ i q h a. f.least (suc i) q (omega arith) a }
+  fails_tail : (k : ℕ) → FailsFirst (p ∷ ps) round (suc k) → FailsFirst ps round k
+  fails_tail k f = record { pair = f.pair; here = f.here; fails = f.fails; least = λ i q h a. f.least (suc i) q (omega arith) a }
 
   not_first : PairKept p round → ¬ FailsFirst (p ∷ ps) round 0
   not_first kp f = f.fails (subst (λ (r : Pair). PairKept r round) (stands f.here) kp)
@@ -108,11 +108,11 @@ module _ (round : List ℕ) where
   yes_from n (p ∷ ps) =
       elim (decided (kept p round)) [
         | inl k ↦ (
-          λ e. all_cons p ps round ((same p round).0 k) ((yes_from (suc n) ps).0 (sym (ordered-kept n p ps round k) ∙ e)),
-          λ a. ordered-kept n p ps round k ∙ (yes_from (suc n) ps).1 (λ i q at. a (suc i) q at),
+          λ e. all_cons p ps round ((same p round).0 k) ((yes_from (suc n) ps).0 (sym (ordered_kept n p ps round k) ∙ e)),
+          λ a. ordered_kept n p ps round k ∙ (yes_from (suc n) ps).1 (λ i q at. a (suc i) q at),
         )
         | inr f ↦
-            (λ e. absurd (not_both (sym (ordered-fails n p ps round f) ∙ e)), λ a. absurd (fails_so p round f (a 0 p refl)))
+            (λ e. absurd (not_both (sym (ordered_fails n p ps round f) ∙ e)), λ a. absurd (fails_so p round f (a 0 p refl)))
       ]
 
   -- the place that is given is the first that fails, and the other way; the list's first pair has the place n
@@ -122,9 +122,9 @@ module _ (round : List ℕ) where
   place_is n (p ∷ ps) m e =
       elim (decided (kept p round)) [
         | inl k ↦
-            (let found = place_is (suc n) ps m (sym (ordered-kept n p ps round k) ∙ e) in
+            (let found = place_is (suc n) ps m (sym (ordered_kept n p ps round k) ∙ e) in
             (suc found.0, omega (arith, found.1), fails_later p ps round ((same p round).0 k) found.0 found.2))
-        | inr f ↦ (0, same_place (sym e ∙ ordered-fails n p ps round f) ∙ omega arith, first_fails p ps round (fails_so p round f))
+        | inr f ↦ (0, same_place (sym e ∙ ordered_fails n p ps round f) ∙ omega arith, first_fails p ps round (fails_so p round f))
       ]
 
   pub place_from : (n : ℕ) (pairs : List Pair) (k : ℕ) → FailsFirst pairs round k → ordered_from n pairs round ≡ fails_at (n + k)
@@ -132,10 +132,10 @@ module _ (round : List ℕ) where
   place_from n (p ∷ ps) zero f =
       elim (decided (kept p round)) [
         | inl k ↦ absurd (not_first p ps round ((same p round).0 k) f)
-        | inr no-k ↦ ordered-fails n p ps round no-k ∙ ap fails_at (omega arith)
+        | inr no-k ↦ ordered_fails n p ps round no-k ∙ ap fails_at (omega arith)
       ]
   place_from n (p ∷ ps) (suc k) f =
       elim (decided (kept p round)) [
-        | inl kp ↦ ordered-kept n p ps round kp ∙ place_from (suc n) ps k (fails-tail p ps round k f) ∙ ap fails_at (omega arith)
+        | inl kp ↦ ordered_kept n p ps round kp ∙ place_from (suc n) ps k (fails_tail p ps round k f) ∙ ap fails_at (omega arith)
         | inr no-k ↦ absurd (fails_so p round no-k (f.least 0 p (omega arith) refl))
       ]

@@ -1,4 +1,4 @@
--- The theorem `references-first`: the sentences of 02 (xii), and what a caller asks next (`specs/Theorems/ReferencesFirst`). Assumes nothing.
+-- The theorem `references_first`: the sentences of 02 (xii), and what a caller asks next (`specs/Theorems/ReferencesFirst`). Assumes nothing.
 use mathlib.Core.Path.{◌≡◌, refl, sym, ap, subst, ◌∙◌}
 use mathlib.Core.Logic.{◌↔◌}
 use Prim.Native.Nat.{ℕ, zero, suc}
@@ -15,9 +15,9 @@ use Rattle.order.proofs.PairLaws.{at_wall, at_reference, at_other}
 use Rattle.order.proofs.Places.{nothing_there, stands, same, yes_from, place_is, place_from}
 
 -- what is not the first occurs behind it
-occurs-tail : (x : ℕ) (xs : List ℕ) (id : ℕ) → ¬ (x ≡ id) → Occurs (x ∷ xs) id → Occurs xs id
-occurs-tail x xs id n (zero, a) = absurd (n (stands a))
-occurs-tail x xs id n (suc i, a) = (i, a)
+occurs_tail : (x : ℕ) (xs : List ℕ) (id : ℕ) → ¬ (x ≡ id) → Occurs (x ∷ xs) id → Occurs xs id
+occurs_tail x xs id n (zero, a) = absurd (n (stands a))
+occurs_tail x xs id n (suc i, a) = (i, a)
 
 itself : (id : ℕ) (round : List ℕ) → (kept (twice id) round ≡ false) ↔ Occurs round id
 unfolding kept occurs
@@ -27,7 +27,7 @@ itself id (x ∷ xs) =
       | yes e ↦ (λ f. (0, ap some e), λ o. at_wall (twice id) x xs e)
       | no n ↦ (
         λ f. let o = (itself id xs).0 (sym (at_other (twice id) x xs n n) ∙ f) in (suc o.0, o.1),
-        λ o. at_other (twice id) x xs n n ∙ (itself id xs).1 (occurs-tail x xs id n o),
+        λ o. at_other (twice id) x xs n n ∙ (itself id xs).1 (occurs_tail x xs id n o),
       )
     ]
 
@@ -39,7 +39,7 @@ longer p (x ∷ xs) more o =
       | no n ↦
           elim (ℕ_discrete x p.reference) [
             | yes e ↦ at_reference p x (xs ++ more) n e ∙ sym (at_reference p x xs n e)
-            | no m ↦ at_other p x (xs ++ more) n m ∙ longer p xs more (occurs-tail x xs p.wall n o) ∙ sym (at_other p x xs n m)
+            | no m ↦ at_other p x (xs ++ more) n m ∙ longer p xs more (occurs_tail x xs p.wall n o) ∙ sym (at_other p x xs n m)
           ]
     ]
 
@@ -64,8 +64,8 @@ place_exactly pairs round k = (gives, λ f. place_from round 0 pairs k f ∙ ap 
         let here : found.0 ≡ k = omega (arith, found.1) in
         subst (λ (i : ℕ). FailsFirst pairs round i) here found.2
 
-pub references-first : ReferencesFirst
-references-first = record {
+pub references_first : ReferencesFirst
+references_first = record {
   same = same;
   yes_exactly = λ pairs round. yes_from round 0 pairs;
   place_exactly = place_exactly;

@@ -16,11 +16,11 @@ use Rattle.page.proofs.PageStores.{last_first, sets_over, drop-replicate}
 
 -- ---- the number
 
-pub length-places : (k n : ℕ) → length (places k n) ≡ k
+pub length_places : (k n : ℕ) → length (places k n) ≡ k
 unfolding places
-length-places zero n = refl
-length-places (suc k) n =
-    omega (arith, length-append (places k (n / 10)) (cond (eqb n 0) 32 (48 + n % 10) ∷ []), length-places k (n / 10))
+length_places zero n = refl
+length_places (suc k) n =
+    omega (arith, length-append (places k (n / 10)) (cond (eqb n 0) 32 (48 + n % 10) ∷ []), length_places k (n / 10))
 
 -- the last place of a number is stored first
 last_place : (out : List ℕ) (at k n p : ℕ) → p ≡ cond (eqb n 0) 32 (48 + n % 10)
@@ -28,7 +28,7 @@ last_place : (out : List ℕ) (at k n p : ℕ) → p ≡ cond (eqb n 0) 32 (48 +
 unfolding places
 last_place out at k n p e =
     ap (λ (x : ℕ). sets (set out (at + k) x) at (places k (n / 10))) e
-    ∙ last_first (places k (n / 10)) out at (at + k) (cond (eqb n 0) 32 (48 + n % 10)) (omega (arith, length-places k (n / 10)))
+    ∙ last_first (places k (n / 10)) out at (at + k) (cond (eqb n 0) 32 (48 + n % 10)) (omega (arith, length_places k (n / 10)))
 
 pub place_turn : (out : List ℕ) (at k n p : ℕ) → 0 < k → p ≡ cond (eqb n 0) 32 (48 + n % 10)
     → sets (set out (at + (k - 1)) p) at (places (k - 1) (n / 10)) ≡ sets out at (places k n)
@@ -46,7 +46,7 @@ pub number_start : (out : List ℕ) (at id d : ℕ) → d ≡ 48 + id % 10
 unfolding id_field
 number_start out at id d e =
     ap (λ (x : ℕ). sets (set out (at + 9) x) at (places 9 (id / 10))) e
-    ∙ last_first (places 9 (id / 10)) out at (at + 9) (48 + id % 10) (omega (arith, length-places 9 (id / 10)))
+    ∙ last_first (places 9 (id / 10)) out at (at + 9) (48 + id % 10) (omega (arith, length_places 9 (id / 10)))
 
 -- ---- the name
 
@@ -68,15 +68,15 @@ module _ (name : List ℕ) where
   abbrev pad : List ℕ
   pad = replicate (32 - length name) 32
 
-  length-bytes : length bytes ≡ min 32 (length name)
-  length-bytes = length-map (take 32 name) shown ∙ length-take 32 name
+  length_bytes : length bytes ≡ min 32 (length name)
+  length_bytes = length-map (take 32 name) shown ∙ length-take 32 name
 
   -- spaces first, and the name over them
   over_spaces : (out : List ℕ) (at n : ℕ) → n ≡ min 32 (length name)
       → sets (sets out at (replicate 32 32)) at (map shown (take n name)) ≡ sets out at (bytes ++ pad)
   over_spaces out at n e =
-      let k : 32 - length bytes ≡ 32 - length name = omega (arith, length-bytes) in
-      let l : length bytes ≤ length (replicate {A = ℕ} 32 32) = omega (arith, length-bytes, length-replicate {A = ℕ} 32 32) in
+      let k : 32 - length bytes ≡ 32 - length name = omega (arith, length_bytes) in
+      let l : length bytes ≤ length (replicate {A = ℕ} 32 32) = omega (arith, length_bytes, length-replicate {A = ℕ} 32 32) in
       ap (λ (r : List ℕ). sets (sets out at (replicate 32 32)) at (map shown r)) (cut name n e)
       ∙ sets_over bytes (replicate 32 32) out at l
       ∙ ap (λ (r : List ℕ). sets out at (bytes ++ r)) (drop-replicate (length bytes) 32 32 ∙ ap (λ (m : ℕ). replicate m 32) k)
@@ -87,7 +87,7 @@ module _ (name : List ℕ) where
       → set out₂ (at + 32) m ≡ sets out at (name_field (some name))
   unfolding name_field
   name_printed out out₁ out₂ at n m en em e₁ e₂ =
-      let w : length (bytes ++ pad) ≡ 32 = omega (arith, length-append bytes pad, length-bytes, length-replicate {A = ℕ} (32 - length name) 32) in
+      let w : length (bytes ++ pad) ≡ 32 = omega (arith, length-append bytes pad, length_bytes, length-replicate {A = ℕ} (32 - length name) 32) in
       let stored : out₂ ≡ sets out at (bytes ++ pad) =
       e₂ ∙ ap (λ (l : List ℕ). sets l at (map shown (take n name))) e₁ ∙ over_spaces out at n en in
       ap (λ (x : ℕ). set out₂ (at + 32) x) em
@@ -115,19 +115,19 @@ field_unnamed image out out₁ id at e e₁ =
 
 pub length_number : (id : ℕ) → length (id_field id) ≡ 10
 unfolding id_field
-length_number id = omega (arith, length-append (places 9 (id / 10)) ((48 + id % 10) ∷ []), length-places 9 (id / 10))
+length_number id = omega (arith, length-append (places 9 (id / 10)) ((48 + id % 10) ∷ []), length_places 9 (id / 10))
 
 pub length_field : (o : Option (List ℕ)) → length (name_field o) ≡ 33
 unfolding name_field
 length_field (some name) =
     let sign = length-append (bytes name ++ pad name) (cond (ltb 32 (length name)) 43 32 ∷ []) in
     let padded = length-append (bytes name) (pad name) in
-    omega (arith, length-bytes name, length-replicate {A = ℕ} (32 - length name) 32)
+    omega (arith, length_bytes name, length-replicate {A = ℕ} (32 - length name) 32)
 length_field none = simp length-append
 
-pub length-line : (name : ℕ → Option (List ℕ)) (id : ℕ) → length (line name id) ≡ 45
+pub length_line : (name : ℕ → Option (List ℕ)) (id : ℕ) → length (line name id) ≡ 45
 unfolding line
-length-line name id =
+length_line name id =
     simp length-append (omega (arith, length_number id, length_field (name id)))
 
 -- number, space, field and line feed, one after the other

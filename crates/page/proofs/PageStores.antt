@@ -5,7 +5,7 @@ use mathlib.Core.Path.{◌≡◌, refl, sym, ap, ◌∙◌}
 use mathlib.Core.List.{List, [], ◌∷◌, ◌++◌, map}
 use lib.ListN.{length, get_or, set, drop, replicate, get_or-map, length-map, drop_of_length-le}
 use lib.Seq.{sets, set_comm, set-set}
-use Rattle.image.proofs.Stores.{sets-append, sets-step}
+use Rattle.image.proofs.Stores.{sets_append, sets_step}
 
 module _ {A : Type 0} where
   -- a store behind a run, made before it
@@ -18,7 +18,7 @@ module _ {A : Type 0} where
   -- the last of a run, stored first
   pub last_first : (xs l : List A) (i j : ℕ) (a : A) → j ≡ i + length xs → sets (set l j a) i xs ≡ sets l i (xs ++ (a ∷ []))
   last_first xs l i j a e =
-      set_first xs l i j a (omega arith) ∙ ap (λ (k : ℕ). set (sets l i xs) k a) e ∙ sets-append xs (a ∷ []) l i
+      set_first xs l i j a (omega arith) ∙ ap (λ (k : ℕ). set (sets l i xs) k a) e ∙ sets_append xs (a ∷ []) l i
 
   -- a store before a run, made behind it
   set_later : (xs l : List A) (i j : ℕ) (a : A) → j < i → set (sets l i xs) j a ≡ sets (set l j a) i xs
@@ -60,7 +60,7 @@ pub map_turn : (f : ℕ → ℕ) (src l : List ℕ) (i j b : ℕ) → j < length
     → sets (set l (i + j) b) (i + (j + 1)) (drop (j + 1) (map f src)) ≡ sets l (i + j) (drop j (map f src))
 map_turn f src l i j b h e =
     ap (λ (x : ℕ). sets (set l (i + j) x) (i + (j + 1)) (drop (j + 1) (map f src))) (e ∙ sym (get_or-map f src j 0))
-    ∙ sets-step (map f src) l i j (f 0) (omega (arith, length-map src f))
+    ∙ sets_step (map f src) l i j (f 0) (omega (arith, length-map src f))
 
 -- nothing is left of them
 pub map_end : (f : ℕ → ℕ) (src l : List ℕ) (i j : ℕ) → length src ≤ j → sets l i (drop j (map f src)) ≡ l

@@ -12,30 +12,30 @@ use lib.Dec.{ltb}
 use borrow.Author.Tests.{lt-ltb, le-ltb}
 use Rattle.jhash.specs.Outcome.{Outcome, value, refusal}
 use Rattle.image.specs.Bytes.{cat, range}
-use Rattle.image.proofs.Lists.{cat-append, length-cat, length-range, range_split}
+use Rattle.image.proofs.Lists.{cat_append, length_cat, length_range, range_split}
 use Rattle.image.proofs.Stores.{sets_then}
 use Rattle.reader.specs.Naming.{name_given}
 use Rattle.reader.specs.IdWalk.{upper_hint}
 use Rattle.page.specs.Page.{line, lines, page}
 use Rattle.page.specs.Call.{printing_lines, after_lines, printing, after_page, part_lines, part_printing, after_part}
 use Rattle.page.specs.Steps.Contracts.{FrontPrinted}
-use Rattle.page.proofs.Fields.{length-line}
+use Rattle.page.proofs.Fields.{length_line}
 
 module _ (name : ℕ → Option (List ℕ)) where
-  pub length-lines : (first n : ℕ) → length (lines name first n) ≡ 45 * n
+  pub length_lines : (first n : ℕ) → length (lines name first n) ≡ 45 * n
   unfolding lines
-  length-lines first n =
-      length-cat (line name) 45 (length-line name) (range first n) ∙ ap (λ (k : ℕ). 45 * k) (length-range first n)
+  length_lines first n =
+      length_cat (line name) 45 (length_line name) (range first n) ∙ ap (λ (k : ℕ). 45 * k) (length_range first n)
 
-  pub length-page : (n : ℕ) → length (page name n) ≡ 45 * n
+  pub length_page : (n : ℕ) → length (page name n) ≡ 45 * n
   unfolding page
-  length-page n = length-lines 0 n
+  length_page n = length_lines 0 n
 
   -- lines in two parts
   pub lines_split : (first m k : ℕ) → lines name first (m + k) ≡ lines name first m ++ lines name (first + m) k
   unfolding lines
   lines_split first m k =
-      ap (cat (line name)) (range_split first m k) ∙ cat-append (line name) (range first m) (range (first + m) k)
+      ap (cat (line name)) (range_split first m k) ∙ cat_append (line name) (range first m) (range (first + m) k)
 
   -- where a part of `a` ids ends, of which `left` are there: k lines follow, and none where the part has fewer than `a`
   pub behind_part : (left first a k : ℕ) → (left < a → k ≡ 0) → lines name (first + min a left) k ≡ lines name (first + a) k
@@ -59,7 +59,7 @@ module _ (name : ℕ → Option (List ℕ)) where
   unfolding lines cat range
   lines_turn out out₁ first i n h e =
       let id = first + i in
-      let w = length-line name id in
+      let w = length_line name id in
       let m : suc (n - (i + 1)) ≡ n - i = omega arith in
       let s : first + (i + 1) ≡ suc id = omega arith in
       let rest = lines name (suc id) (n - (i + 1)) in
@@ -88,7 +88,7 @@ module _ (name : ℕ → Option (List ℕ)) (first n : ℕ) (out : List ℕ) whe
   -- the lines stand in front of what was behind them
   in_front : 45 * n ≤ length out → sets out 0 (lines name first n) ≡ lines name first n ++ drop (45 * n) out
   in_front h =
-      let w = length-lines name first n in
+      let w = length_lines name first n in
       let k : 0 + length (lines name first n) ≡ 45 * n = omega arith in
       sets-eq (lines name first n) out 0 (omega arith) ∙ ap (λ (m : ℕ). lines name first n ++ drop m out) k
 
@@ -104,11 +104,11 @@ module _ (name : ℕ → Option (List ℕ)) (first n : ℕ) (out : List ℕ) whe
 
 -- ---- the calls, for an image of that back size
 
-pub whole-page : (image out out₁ : List ℕ) (size : ℕ) (r : Outcome ℕ) → size ≡ upper_hint image 0
+pub whole_page : (image out out₁ : List ℕ) (size : ℕ) (r : Outcome ℕ) → size ≡ upper_hint image 0
     → FrontPrinted (name_given image) 0 size out out₁ r
     → (r ≡ printing image (length out)) × (out₁ ≡ after_page image out)
 unfolding printing after_page
-whole-page image out out₁ size r e p = (
+whole_page image out out₁ size r e p = (
   p.answer ∙ ap (λ (k : ℕ). printing_lines k (length out)) e,
   p.leaves ∙ ap (λ (k : ℕ). after_lines (name_given image) 0 k out) e,
 )

@@ -16,15 +16,15 @@ use Rattle.jhash.specs.Outcome.{value, refusal}
 use Rattle.jhash.proofs.ValueOrRefusal.{no_value}
 use Rattle.image.proofs.Bools.{chose_first}
 use Rattle.image.specs.Bytes.{cat, range}
-use Rattle.image.proofs.Lists.{cat_run, length-range, get_or-range}
+use Rattle.image.proofs.Lists.{cat_run, length_range, get_or_range}
 use Rattle.image.proofs.At.{At, at_whole, at_same, at_equal, at_part, at_take}
 use Rattle.reader.specs.Naming.{name_given}
 use Rattle.reader.specs.IdWalk.{upper_hint}
 use Rattle.page.specs.Page.{id_field, name_field, line, lines, page}
 use Rattle.page.specs.Call.{page_of, page_length, printing, after_page, page_part}
 use Rattle.page.specs.Theorems.PrintedPage.{PrintedPage, Plain, read_from}
-use Rattle.page.proofs.Fields.{length_number, length_field, length-line}
-use Rattle.page.proofs.Pages.{length-page, lines_split, behind_part}
+use Rattle.page.proofs.Fields.{length_number, length_field, length_line}
+use Rattle.page.proofs.Pages.{length_page, lines_split, behind_part}
 use Rattle.page.proofs.Printable.{all_at, front, plain_front, printable_lines}
 use Rattle.page.proofs.IdFields.{read_number}
 
@@ -62,24 +62,24 @@ same_line f g id e = ap (λ (o : Option (List ℕ)). id_field id ++ (32 ∷ []) 
 
 -- ---- the page
 
-page-length : (image : List ℕ) → length (page_of image) ≡ page_length image
+page_length_lem : (image : List ℕ) → length (page_of image) ≡ page_length image
 unfolding page_of
-page-length image = length-page (name_given image) (upper_hint image 0)
+page_length_lem image = length_page (name_given image) (upper_hint image 0)
 
 line_stands : (image : List ℕ) (id : ℕ) → id < upper_hint image 0 → take 45 (drop (45 * id) (page_of image)) ≡ line (name_given image) id
 unfolding page_of page
 line_stands image id h =
     let n = upper_hint image 0 in
     let f = line (name_given image) in
-    let here = at_part f 45 (length-line (name_given image)) 0 (range 0 n) id 0 (at_whole (page_of image)) (omega (arith, length-range 0 n)) in
-    let i : get_or (range 0 n) id 0 ≡ id = get_or-range 0 n id h ∙ zero-add id in
+    let here = at_part f 45 (length_line (name_given image)) 0 (range 0 n) id 0 (at_whole (page_of image)) (omega (arith, length_range 0 n)) in
+    let i : get_or (range 0 n) id 0 ≡ id = get_or_range 0 n id h ∙ zero-add id in
     let there : At (page_of image) (45 * id) (f id) = at_same (zero-add (45 * id)) (at_equal (ap f i) here) in
-    ap (λ (k : ℕ). take k (drop (45 * id) (page_of image))) (sym (length-line (name_given image) id)) ∙ at_take there
+    ap (λ (k : ℕ). take k (drop (45 * id) (page_of image))) (sym (length_line (name_given image) id)) ∙ at_take there
 
 page_printable : (image : List ℕ) (i : ℕ) → i < page_length image → Plain (get_or (page_of image) i 0) ⊎ (get_or (page_of image) i 0 ≡ 10)
 unfolding page_of page
 page_printable image i h =
-    let k : i < length (page_of image) = omega (arith, page-length image) in
+    let k : i < length (page_of image) = omega (arith, page_length_lem image) in
     all_at (λ (b : ℕ). Plain b ⊎ (b ≡ 10)) (page_of image) i (printable_lines (name_given image) 0 (upper_hint image 0)) k
 
 alike : (a b : List ℕ) → upper_hint a 0 ≡ upper_hint b 0 → ((id : ℕ) → id < upper_hint a 0 → name_given a id ≡ name_given b id)
@@ -116,10 +116,10 @@ module _ (image out : List ℕ) where
   written h = ap (λ (t : Bool). cond t out (page_of image ++ drop (page_length image) out)) (le-ltb (length out) (page_length image) h)
 
   in_front : page_length image ≤ length out → take (page_length image) (after_page image out) ≡ page_of image
-  in_front h = ap (take (page_length image)) (written h) ∙ take_at (page_of image) (drop (page_length image) out) (page_length image) (page-length image)
+  in_front h = ap (take (page_length image)) (written h) ∙ take_at (page_of image) (drop (page_length image) out) (page_length image) (page_length_lem image)
 
   behind : page_length image ≤ length out → drop (page_length image) (after_page image out) ≡ drop (page_length image) out
-  behind h = ap (drop (page_length image)) (written h) ∙ drop_at (page_of image) (drop (page_length image) out) (page_length image) (page-length image)
+  behind h = ap (drop (page_length image)) (written h) ∙ drop_at (page_of image) (drop (page_length image) out) (page_length image) (page_length_lem image)
 
   unwritten : printing image (length out) ≡ refusal 12 → after_page image out ≡ out
   unfolding printing after_page page_of
@@ -131,11 +131,11 @@ module _ (image out : List ℕ) where
 pub printed_page : PrintedPage
 printed_page =
     record {
-      line-length = length-line;
+      line_length = length_line;
       line_ends = line_ends;
       line_plain = line_plain;
       number_reads = number_reads;
-      page-length = page-length;
+      page_length_lem = page_length_lem;
       line_stands = line_stands;
       page_printable = page_printable;
       whole = whole;

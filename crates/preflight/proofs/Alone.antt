@@ -24,9 +24,9 @@ use Rattle.preflight.specs.Theorems.Asked.{In, Whole, OnSheet, RoundNamed, MayLe
 use Rattle.preflight.specs.declared.Verdict.{Verdict}
 use Rattle.preflight.specs.declared.Verdict.TheVariants as verdict
 use Rattle.preflight.specs.declared.Verdict.TheVariants.{Yes, NewRefused, EmptyRound}
-use Rattle.preflight.proofs.Members.{passing-append, none-counted, counted_none, none_passes, passes_none}
+use Rattle.preflight.proofs.Members.{passing_append, none_counted, counted_none, none_passes, passes_none}
 use Rattle.preflight.proofs.Questions as asked
-use Rattle.preflight.proofs.Yes.{no-yes, both, both_back, unless, nameless-none, shared_none, off_none}
+use Rattle.preflight.proofs.Yes.{no_yes, both, both_back, unless, nameless_none, shared_none, off_none}
 
 -- ---- 1, 7
 two_way_so : (t : Bool) → cond t Twoway Oneway ≡ Twoway → t ≡ true
@@ -37,22 +37,22 @@ pub whole_forth : (image : List ℕ) → is_whole image ≡ true → Whole image
 whole_forth image h = by_case (canonical image) refl h
   where
     by_case : (t : Bool) → canonical image ≡ t → cond t (eqb (word image 8) 0) false ≡ true → Whole image
-    by_case true e q = record { is-canonical = e; two-way = ap (λ (u : Bool). cond u Twoway Oneway) q }
+    by_case true e q = record { is_canonical = e; two_way_lem = ap (λ (u : Bool). cond u Twoway Oneway) q }
     by_case false e q = absurd (false_not_true q)
 
 pub whole_back : (image : List ℕ) → Whole image → is_whole image ≡ true
 whole_back image w =
-    ap (λ (t : Bool). cond t (eqb (word image 8) 0) false) w.is-canonical ∙ two_way_so (eqb (word image 8) 0) w.two-way
+    ap (λ (t : Bool). cond t (eqb (word image 8) 0) false) w.is_canonical ∙ two_way_so (eqb (word image 8) 0) w.two_way_lem
 
 -- ---- 2, 3
 module _ (lists : Lists) (i : ℕ) where
   abbrev listed : ℕ
   listed = count i (lists.references ++ lists.walls ++ lists.retired)
 
-  all-counted : listed ≡ count i lists.references + count i lists.walls + count i lists.retired
-  all-counted =
-      passing-append (is_id i) (lists.references ++ lists.walls) lists.retired
-      ∙ ap (λ (k : ℕ). k + count i lists.retired) (passing-append (is_id i) lists.references lists.walls)
+  all_counted : listed ≡ count i lists.references + count i lists.walls + count i lists.retired
+  all_counted =
+      passing_append (is_id i) (lists.references ++ lists.walls) lists.retired
+      ∙ ap (λ (k : ℕ). k + count i lists.retired) (passing_append (is_id i) lists.references lists.walls)
 
   on_forth : off_sheet lists.references lists.walls lists.retired i ≡ false → (listed ≡ 1) × ¬ In i lists.retired
   unfolding off_sheet
@@ -63,15 +63,15 @@ module _ (lists : Lists) (i : ℕ) where
       by_case true e true f q =
           let a = eqb-true (count i lists.references + count i lists.walls) 1 e in
           let b = eqb-true (count i lists.retired) 0 f in
-          (omega (arith, all-counted, a, b), counted_none i lists.retired b)
+          (omega (arith, all_counted, a, b), counted_none i lists.retired b)
       by_case true e false f q = absurd (false_not_true (sym q))
       by_case false e u f q = absurd (false_not_true (sym q))
 
   pub on_back : listed ≡ 1 → ¬ In i lists.retired → off_sheet lists.references lists.walls lists.retired i ≡ false
   unfolding off_sheet
   on_back h n =
-      let b = none-counted i lists.retired n in
-      let a : count i lists.references + count i lists.walls ≡ 1 = omega (arith, all-counted, h, b) in
+      let b = none_counted i lists.retired n in
+      let a : count i lists.references + count i lists.walls ≡ 1 = omega (arith, all_counted, h, b) in
       simp (eq-eqb (count i lists.references + count i lists.walls) 1 a, eq-eqb (count i lists.retired) 0 b)
 
 module _ (sheet round : List ℕ) where
@@ -88,7 +88,7 @@ module _ (sheet round : List ℕ) where
             once = λ i m. (on_forth l i (none-off i m)).0;
             in_use = λ i m. (on_forth l i (none-off i m)).1;
           }
-      by_case (refusal k) e q = no-yes (verdict.SheetRefused k) refl q
+      by_case (refusal k) e q = no_yes (verdict.SheetRefused k) refl q
 
   pub sheet_back : OnSheet sheet round → of_sheet (read_lists sheet) round ≡ Yes
   sheet_back s =
@@ -110,16 +110,16 @@ module _ (new round : List ℕ) where
       rest = and_then (of_nameless (first_nameless (name_given new) round)) (of_shared (first_shared_in (name_given new) round))
 
       by_case : (t : Bool) → eqb (length round) 0 ≡ t → cond t EmptyRound rest ≡ Yes → RoundNamed new round
-      by_case true e q = no-yes EmptyRound refl q
+      by_case true e q = no_yes EmptyRound refl q
       by_case false e q =
           let two = both (of_nameless (first_nameless (name_given new) round)) (of_shared (first_shared_in (name_given new) round)) q in
-          let all_named = none_passes (nameless (name_given new)) 0 round (nameless-none (first_nameless (name_given new) round) two.0) in
+          let all_named = none_passes (nameless (name_given new)) 0 round (nameless_none (first_nameless (name_given new) round) two.0) in
           let alone = shared_none (first_shared_in (name_given new) round) two.1 in
           record {
             some_id = λ n. eqb-false (length round) 0 e (ap length n);
-            named = λ i m. asked.not-empty (name_given new i) (all_named i m);
+            named = λ i m. asked.not_empty (name_given new i) (all_named i m);
             one_name = λ i k m n d.
-                let w = asked.not-empty (name_given new i) (all_named i m) in
+                let w = asked.not_empty (name_given new i) (all_named i m) in
                 asked.one_name (name_given new) round alone i k w.0 m n w.1 (sym d ∙ w.1);
           }
 
@@ -129,7 +129,7 @@ module _ (new round : List ℕ) where
       ap (λ (t : Bool). cond t EmptyRound (and_then (of_nameless (first_nameless (name_given new) round)) (of_shared (first_shared_in (name_given new) round))))
       (ne_eqb (length round) 0 (λ e. r.some_id (empty_so round e)))
       ∙ both_back (of_nameless (first_nameless (name_given new) round)) (of_shared (first_shared_in (name_given new) round))
-      (ap of_nameless (passes_none (nameless (name_given new)) 0 round (λ i m. asked.not-empty_back (name_given new i) (r.named i m))))
+      (ap of_nameless (passes_none (nameless (name_given new)) 0 round (λ i m. asked.not_empty_back (name_given new i) (r.named i m))))
       (ap of_shared (asked.one_name_back (name_given new) round r.one_name))
 
 -- ---- 1 to 6
@@ -143,7 +143,7 @@ module _ (new sheet round : List ℕ) where
       let u = unless (is_whole new) rest NewRefused refl h in
       let two = both (of_sheet (read_lists sheet) round) (of_round (name_given new) round) u.1 in
       record {
-        new-whole = whole_forth new u.0;
+        new_whole = whole_forth new u.0;
         on_sheet = sheet_forth sheet round two.0;
         round_named = round_forth new round two.1;
       }
@@ -151,7 +151,7 @@ module _ (new sheet round : List ℕ) where
   pub first_back : MayLeaveFirst new sheet round → verdict_first new sheet round ≡ Yes
   unfolding verdict_first
   first_back m =
-      ap (λ (t : Bool). cond t rest NewRefused) (whole_back new m.new-whole)
+      ap (λ (t : Bool). cond t rest NewRefused) (whole_back new m.new_whole)
       ∙ both_back (of_sheet (read_lists sheet) round) (of_round (name_given new) round) (sheet_back sheet round m.on_sheet)
       (round_back new round m.round_named)
 

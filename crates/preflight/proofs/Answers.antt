@@ -103,7 +103,7 @@ verdict_is old new sheet round accepted = refl
 -- ---- the sheet
 module _ (file : Slice) (round : List ℕ) where
   abbrev listed : Outcome Sheet → Verdict
-  listed x = of_sheet (sheet.and_then x (λ (s : Sheet). value (sheet.lists_of file.bytes s))) round
+  listed x = of_sheet (sheet.and_then x (λ (s : Sheet). value (sheet.lists_of_lem file.bytes s))) round
 
   pub sheet_refused : (k : ℕ) → refusal k ≡ sheet.read_sheet file.bytes → SheetRefused k ≡ of_sheet (read_lists file.bytes) round
   unfolding sheet.read_lists
@@ -126,18 +126,18 @@ module _ (file : Slice) (round : List ℕ) where
 
 -- ---- the whole answer
 module _ (v w : Verdict) (e : v ≡ w) where
-  pub answer-no : (c a u : ℕ) → is_yes v ≡ false
+  pub answer_no : (c a u : ℕ) → is_yes v ≡ false
       → ◌≡◌ {A = Answer} (record { verdict = v; compared = 0; added = 0; unsighted = 0 }) (answer_of w c a u)
-  answer-no c a u h =
+  answer_no c a u h =
       (λ i. record { verdict = v; compared = uncounted c i; added = uncounted a i; unsighted = uncounted u i })
       ∙ ap (λ (x : Verdict). answer_of x c a u) e
     where
       uncounted : (n : ℕ) → 0 ≡ if_yes v n
       uncounted n = sym (ap (λ (t : Bool). cond t n 0) h)
 
-  pub answer-yes : (c c' a a' u u' : ℕ) → is_yes v ≡ true → c ≡ c' → a ≡ a' → u ≡ u'
+  pub answer_yes : (c c' a a' u u' : ℕ) → is_yes v ≡ true → c ≡ c' → a ≡ a' → u ≡ u'
       → ◌≡◌ {A = Answer} (record { verdict = v; compared = c; added = a; unsighted = u }) (answer_of w c' a' u')
-  answer-yes c c' a a' u u' h f g k =
+  answer_yes c c' a a' u u' h f g k =
       (λ i. record { verdict = v; compared = counted c i; added = counted a i; unsighted = counted u i })
       ∙ (λ i. answer_of (e i) (f i) (g i) (k i))
     where

@@ -18,7 +18,7 @@ use Rattle.preflight.specs.declared.Verdict.{Verdict}
 use Rattle.preflight.specs.declared.Verdict.TheVariants.{Yes, OldRefused, NothingAlike}
 use Rattle.preflight.proofs.Given.{none_above}
 use Rattle.preflight.proofs.Questions as asked
-use Rattle.preflight.proofs.Yes.{both, both_back, unless, renamed-none, taken_none}
+use Rattle.preflight.proofs.Yes.{both, both_back, unless, renamed_none, taken_none}
 use Rattle.preflight.proofs.Alone.{whole_forth, whole_back, first_forth, first_back}
 
 -- an id that the old image names is below its upper hint
@@ -58,9 +58,9 @@ module _ (old new round accepted : List ℕ) where
       asked.none_taken (name_given old) (name_given new) round (upper_hint old 0) 0 h j (omega arith) (omega (arith, b)) i name m e d
 
   pub record Kept : Type 0 where
-    pub old-whole : Whole old
+    pub old_whole : Whole old
     pub some_alike : SomeAlike old new
-    pub not-renamed : NotRenamed old new round accepted
+    pub not_renamed : NotRenamed old new round accepted
     pub not_taken : NotTaken old new round
 
   pub changes_forth : of_changes old new round accepted ≡ Yes → Kept
@@ -70,19 +70,19 @@ module _ (old new round accepted : List ℕ) where
       let k = unless (some_kept_in old new) by_names NothingAlike refl u.1 in
       let two = both (of_renamed renamed_first) (of_taken (first_taken_in old new round)) k.1 in
       record {
-        old-whole = whole_forth old u.0;
+        old_whole = whole_forth old u.0;
         some_alike = alike_forth old new k.0;
-        not-renamed = asked.not-renamed (name_given old) (name_given new) accepted round (renamed-none renamed_first two.0);
+        not_renamed = asked.not_renamed (name_given old) (name_given new) accepted round (renamed_none renamed_first two.0);
         not_taken = untaken (taken_none (first_taken_in old new round) two.1);
       }
 
   pub changes_back : Kept → of_changes old new round accepted ≡ Yes
   unfolding of_changes
   changes_back k =
-      ap (λ (t : Bool). cond t by_alike OldRefused) (whole_back old k.old-whole)
+      ap (λ (t : Bool). cond t by_alike OldRefused) (whole_back old k.old_whole)
       ∙ ap (λ (t : Bool). cond t by_names NothingAlike) (alike_back old new k.some_alike)
       ∙ both_back (of_renamed renamed_first) (of_taken (first_taken_in old new round))
-      (ap of_renamed (asked.renamed-none (name_given old) (name_given new) accepted round k.not-renamed))
+      (ap of_renamed (asked.renamed_none (name_given old) (name_given new) accepted round k.not_renamed))
       (ap of_taken (asked.taken_none (name_given old) (name_given new) round (upper_hint old 0) 0 (λ j i name m e d. k.not_taken i j name m e d)))
 
 -- ---- 1 to 10
@@ -94,9 +94,9 @@ module _ (old new sheet round accepted : List ℕ) where
       let k = changes_forth old new round accepted two.1 in
       record {
         alone = first_forth new sheet round two.0;
-        old-whole = k.old-whole;
+        old_whole = k.old_whole;
         some_alike = k.some_alike;
-        not-renamed = k.not-renamed;
+        not_renamed = k.not_renamed;
         not_taken = k.not_taken;
       }
 
@@ -105,7 +105,7 @@ module _ (old new sheet round accepted : List ℕ) where
   back m =
       both_back (verdict_first new sheet round) (of_changes old new round accepted) (first_back new sheet round m.alone)
       (changes_back old new round accepted
-      (record { old-whole = m.old-whole; some_alike = m.some_alike; not-renamed = m.not-renamed; not_taken = m.not_taken }))
+      (record { old_whole = m.old_whole; some_alike = m.some_alike; not_renamed = m.not_renamed; not_taken = m.not_taken }))
 
   -- so the questions of a first report alone give a yes
   pub alone_yes : verdict old new sheet round accepted ≡ Yes → verdict_first new sheet round ≡ Yes

@@ -26,7 +26,7 @@ use Rattle.preflight.specs.Steps.Contracts.{OneOf}
 use Rattle.preflight.specs.Steps.Distinct.{distinct}
 use Rattle.preflight.specs.Theorems.Asked.{In, OnSheet}
 use Rattle.preflight.specs.declared.Verdict.TheVariants.{Yes}
-use Rattle.preflight.proofs.Members.{in_occurs, occurs_in, passing-append, none-counted}
+use Rattle.preflight.proofs.Members.{in_occurs, occurs_in, passing_append, none_counted}
 use Rattle.preflight.proofs.Tallies.{others}
 use Rattle.preflight.proofs.Alone.{sheet_forth}
 
@@ -43,11 +43,11 @@ module _ (round : List ℕ) where
   pub distinct_starts : DistinctInv round 0 0
   distinct_starts = record { is = omega arith; most = omega arith }
 
-  pub distinct-on : (seen i r : ℕ) → DistinctInv round seen i → i < length round
+  pub distinct_on : (seen i r : ℕ) → DistinctInv round seen i → i < length round
       → OneOf (absent (take (length round - (i + 1)) (drop (i + 1) round)) (get_or round i 0)) r
       → DistinctInv round (seen + r) (i + 1)
   unfolding distinct
-  distinct-on seen i r v h o =
+  distinct_on seen i r v h o =
       let t = counted in
       record { is = omega (arith, v.is, t); most = omega (arith, v.most, o.most) }
     where
@@ -134,7 +134,7 @@ module _ (lists : Lists) (round : List ℕ) (once : (i : ℕ) → In i round →
       ≡ length lists.references + length lists.walls
   all_but =
       let s = sighted_so round (lists.references ++ lists.walls) once in
-      let a = passing-append (λ (y : ℕ). occurs y round) lists.references lists.walls in
+      let a = passing_append (λ (y : ℕ). occurs y round) lists.references lists.walls in
       let r = others (λ (y : ℕ). occurs y round) lists.references in
       let w = others (λ (y : ℕ). occurs y round) lists.walls in
       omega (arith, s, a, r, w)
@@ -147,10 +147,10 @@ module _ (file : Slice) where
   same_lists : (l m : Lists) → ◌≡◌ {A = Outcome Lists} (value l) (value m) → l ≡ m
   same_lists l m e = cc
 
-  sections_are : (x : Outcome Sheet) (l : Lists) → sheet.and_then x (λ (s : Sheet). value (sheet.lists_of file.bytes s)) ≡ value l
+  sections_are : (x : Outcome Sheet) (l : Lists) → sheet.and_then x (λ (s : Sheet). value (sheet.lists_of_lem file.bytes s)) ≡ value l
       → (ids_in (sheet.section_or_empty file References x).bytes ≡ l.references) × (ids_in (sheet.section_or_empty file Walls x).bytes ≡ l.walls)
   sections_are (value s) l e =
-      let f = same_lists (sheet.lists_of file.bytes s) l e in
+      let f = same_lists (sheet.lists_of_lem file.bytes s) l e in
       (ap (λ (m : Lists). m.references) f, ap (λ (m : Lists). m.walls) f)
   sections_are (refusal k) l e = no_lists k l e
 
@@ -183,6 +183,6 @@ unsighted_so file round a b d listed ea eb ed =
   where
     once_there : (i : ℕ) (xs ys : List ℕ) → count i (xs ++ ys) ≡ 1 → ¬ In i ys → count i xs ≡ 1
     once_there i xs ys e n =
-        let c = passing-append (is_id i) xs ys in
-        let z = none-counted i ys n in
+        let c = passing_append (is_id i) xs ys in
+        let z = none_counted i ys n in
         omega (arith, c, z, e)

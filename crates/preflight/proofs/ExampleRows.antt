@@ -25,7 +25,7 @@ use Rattle.preflight.specs.OnSheet.{off_sheet}
 use Rattle.preflight.specs.Verdicts.{of_round}
 use Rattle.preflight.specs.Theorems.Theorem.{by_puts}
 use Rattle.preflight.specs.Examples.Rows.{PreflightRow, RowAnswered, changed_rows, exchanged_rows, round_rows, sheet_rows}
-use Rattle.preflight.proofs.Images.{by-puts}
+use Rattle.preflight.proofs.Images.{by_puts_lem}
 
 -- what is computed of puts: their names have no zero byte, their ids and the size of their image are words
 storable : Entry → Bool
@@ -69,7 +69,7 @@ made puts h = record { mode = Twoway; puts = puts; each = puts_storable puts h; 
 
 holds : (r : PreflightRow) → Computed r → RowAnswered r
 holds r (old-made, new-made, answered) =
-    by-puts (image Twoway r.old) (image Twoway r.new) (made r.old old-made) (made r.new new-made) refl refl r.sheet r.round r.accepted
+    by_puts_lem (image Twoway r.old) (image Twoway r.new) (made r.old old-made) (made r.new new-made) refl refl r.sheet r.round r.accepted
     ∙ answered
 
 changed_computed : All Computed changed_rows

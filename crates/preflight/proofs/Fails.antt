@@ -84,15 +84,15 @@ other_found new none id round q e = nothing_at q e
 other_found new (some name) id round q e =
     let f = found_at (other_has new name id) round q e in
     let t = by_test f.id (eqb f.id id) refl f.passes in
-    record { name = name; given = refl; other = f.id; there = f.there; different = t.0; has = asked.is_name (new f.id) name t.1 }
+    record { name = name; given = refl; other = f.id; there = f.there; different = t.0; has = asked.is_name_lem (new f.id) name t.1 }
   where
     by_test : (o : ℕ) (t : Bool) → eqb o id ≡ t → cond t false (is_name (new o) name) ≡ true → ¬ (o ≡ id) × (is_name (new o) name ≡ true)
     by_test o true f h = absurd (false_not_true h)
     by_test o false f h = (eqb-false o id f, h)
 
 -- two different ids with one name
-no-places : {P : Type 0} (p q : ℕ) → shared.Nothing ≡ shared.Places p q → P
-no-places p q e = let z : ◌≡◌ {A = ℕ} 0 1 = cc in absurd (omega arith)
+no_places : {P : Type 0} (p q : ℕ) → shared.Nothing ≡ shared.Places p q → P
+no_places p q e = let z : ◌≡◌ {A = ℕ} 0 1 = cc in absurd (omega arith)
 
 first_of : (p q r s : ℕ) → shared.Places p q ≡ shared.Places r s → p ≡ r
 first_of p q r s e = cc
@@ -110,7 +110,7 @@ record SharedFound (new : Names) (round : List ℕ) (n : ℕ) (xs : List ℕ) (p
 shared_found : (new : Names) (round : List ℕ) (n : ℕ) (xs : List ℕ) (p q : ℕ) → first_shared new round n xs ≡ shared.Places p q
     → SharedFound new round n xs p q
 unfolding first_shared
-shared_found new round n [] p q e = no-places p q e
+shared_found new round n [] p q e = no_places p q e
 shared_found new round n (x ∷ xs) p q e = by_first (first_other new (new x) x round) refl e (shared_found new round (suc n) xs p q)
   where
     by_first : (y : Place) → first_other new (new x) x round ≡ y → shared_or n (first_shared new round (suc n) xs) y ≡ shared.Places p q
@@ -181,7 +181,7 @@ module _ (old new round accepted : List ℕ) where
         other_there = o.there;
         different = o.different;
         has = o.given;
-        other-has = o.has;
+        other_has_lem = o.has;
       }
 
   pub shows_renamed : (p : ℕ) → first_renamed (name_given old) (name_given new) accepted round ≡ place.At p → ShowsRenamed old new round accepted p

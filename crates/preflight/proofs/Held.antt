@@ -12,7 +12,7 @@ use Rattle.validity.specs.Rule.{some_window, invalid_dates, inverted, holds_date
 use Rattle.validity.specs.Theorems.Seasons.{SomeAt}
 use Rattle.validity.specs.declared.Date.{Date}
 use Rattle.validity.specs.declared.Window.{Window}
-use Rattle.validity.proofs.Theorem.{seasons, some_added, none-added}
+use Rattle.validity.proofs.Theorem.{seasons, some_added, none_added}
 use Rattle.preflight.specs.Dates.{holds_both, outside, first_outside, of_outside, preflight_dates}
 use Rattle.preflight.specs.Theorems.Asked.{In}
 use Rattle.preflight.specs.Theorems.Held.{Holds, DatesAccepted, DatesHeld}
@@ -45,12 +45,12 @@ module _ (last date : Date) (id : ℕ) (w : Window) where
   )
 
 -- ---- the answer
-no-yes : {P : Type 0} (k : ℕ) → Refused k ≡ Yes → P
-no-yes k e = let z : ◌≡◌ {A = ℕ} 0 1 = cc in absurd (omega arith)
+no_yes : {P : Type 0} (k : ℕ) → Refused k ≡ Yes → P
+no_yes k e = let z : ◌≡◌ {A = ℕ} 0 1 = cc in absurd (omega arith)
 
-none-outside : (x : Place) → of_outside x ≡ Yes → x ≡ place.Nothing
-none-outside (place.At p) e = let z : ◌≡◌ {A = ℕ} 0 1 = cc in absurd (omega arith)
-none-outside place.Nothing e = refl
+none_outside : (x : Place) → of_outside x ≡ Yes → x ≡ place.Nothing
+none_outside (place.At p) e = let z : ◌≡◌ {A = ℕ} 0 1 = cc in absurd (omega arith)
+none_outside place.Nothing e = refl
 
 module _ (windows : List Window) (round : List ℕ) (last date : Date) where
   abbrev EachHeld : Type 0
@@ -58,13 +58,13 @@ module _ (windows : List Window) (round : List ℕ) (last date : Date) where
 
   each_held : first_outside windows last date round ≡ place.Nothing → EachHeld
   each_held h i m =
-      (seasons.some-window (holds_both last date i) windows).0
+      (seasons.some_window_lem (holds_both last date i) windows).0
       (not-false _ (none_passes (outside windows last date) 0 round h i m))
 
   held_each : EachHeld → first_outside windows last date round ≡ place.Nothing
   held_each h =
       passes_none (outside windows last date) 0 round
-      (λ i m. ap not ((seasons.some-window (holds_both last date i) windows).1 (h i m)))
+      (λ i m. ap not ((seasons.some_window_lem (holds_both last date i) windows).1 (h i m)))
 
   forth : preflight_dates windows round last date ≡ Yes → DatesAccepted windows last date × EachHeld
   unfolding preflight_dates
@@ -77,18 +77,18 @@ module _ (windows : List Window) (round : List ℕ) (last date : Date) where
           (cond (not q) (Refused 22) (cond b (Refused 22) (cond v (Refused 23) (of_outside (first_outside windows last date round)))))
           ≡ Yes
           → DatesAccepted windows last date × EachHeld
-      by_tests false ep q eq b eb v ev e = no-yes 22 e
-      by_tests true ep false eq b eb v ev e = no-yes 22 e
-      by_tests true ep true eq true eb v ev e = no-yes 22 e
-      by_tests true ep true eq false eb true ev e = no-yes 23 e
+      by_tests false ep q eq b eb v ev e = no_yes 22 e
+      by_tests true ep false eq b eb v ev e = no_yes 22 e
+      by_tests true ep true eq true eb v ev e = no_yes 22 e
+      by_tests true ep true eq false eb true ev e = no_yes 23 e
       by_tests true ep true eq false eb false ev e = (
-        record { last_exists = ep; date_exists = eq; no_invalid = eb; none-inverted = ev },
-        each_held (none-outside (first_outside windows last date round) e),
+        record { last_exists = ep; date_exists = eq; no_invalid = eb; none_inverted = ev },
+        each_held (none_outside (first_outside windows last date round) e),
       )
 
   back : DatesAccepted windows last date → EachHeld → preflight_dates windows round last date ≡ Yes
   back a h =
-      sym (dates_by windows round last date true true false false place.Nothing a.last_exists a.date_exists a.no_invalid a.none-inverted
+      sym (dates_by windows round last date true true false false place.Nothing a.last_exists a.date_exists a.no_invalid a.none_inverted
       (held_each h))
 
   gives_22 : (is_date last ≡ false) ⊎ ((is_date date ≡ false) ⊎ (some_window invalid_dates windows ≡ true))
@@ -127,13 +127,13 @@ adding before after w round last date f e o h =
     (record {
       last_exists = t.0.last_exists;
       date_exists = t.0.date_exists;
-      no_invalid = none-added invalid_dates w after before valid t.0.no_invalid;
-      none-inverted = none-added inverted w after before upright t.0.none-inverted;
+      no_invalid = none_added invalid_dates w after before valid t.0.no_invalid;
+      none_inverted = none_added inverted w after before upright t.0.none_inverted;
     })
     (λ i m.
     let test = holds_both last date i in
-    (seasons.some-window test (before ++ w ∷ after)).0
-    (some_added test w after before ((seasons.some-window test (before ++ after)).1 (t.1 i m))))
+    (seasons.some_window_lem test (before ++ w ∷ after)).0
+    (some_added test w after before ((seasons.some_window_lem test (before ++ after)).1 (t.1 i m))))
 
 pub dates_held : DatesHeld
 dates_held = record {

@@ -17,7 +17,7 @@ use Rattle.lists.specs.Calls.{Call, WordIds}
 use Rattle.lists.specs.Demand3.{accepted_puts, image_of}
 use Rattle.canonical.specs.Steps.Made.{Made}
 use Rattle.canonical.proofs.ListImages.{list_made, list_puts, list_mode}
-use Rattle.canonical.proofs.ReadBack.{made-puts, made_mode, canonical-yes}
+use Rattle.canonical.proofs.ReadBack.{made_puts, made_mode, canonical_yes}
 use Rattle.one_to_one.proofs.Pairs.{gives_last}
 use Rattle.preflight.specs.Names.{Names}
 use Rattle.preflight.specs.OnSheet.{of_sheet}
@@ -29,11 +29,11 @@ use Rattle.preflight.specs.declared.Verdict.TheVariants.{NewRefused, OldRefused}
 use Rattle.preflight.proofs.Alone.{whole_back}
 
 module _ (img : List ℕ) (m : Made img) (two : m.mode ≡ Twoway) where
-  made-whole : is_whole img ≡ true
-  made-whole = whole_back img (record { is-canonical = canonical-yes img m; two-way = made_mode img m ∙ two })
+  made_whole : is_whole img ≡ true
+  made_whole = whole_back img (record { is_canonical = canonical_yes img m; two_way_lem = made_mode img m ∙ two })
 
-  made-names : name_given img ≡ names_of m.puts
-  made-names = λ i id. gives_last img m (made_mode img m ∙ two) id i
+  made_names : name_given img ≡ names_of m.puts
+  made_names = λ i id. gives_last img m (made_mode img m ∙ two) id i
 
   made_bound : upper_hint img 0 ≡ back_size m.puts
   made_bound =
@@ -47,24 +47,24 @@ module _ (new : List ℕ) (n : Made new) (q : n.mode ≡ Twoway) (sheet round : 
   pub first_by_puts : verdict_first new sheet round ≡ and_then (of_sheet (read_lists sheet) round) (of_round (names_of n.puts) round)
   unfolding verdict_first
   first_by_puts =
-      ap (λ (t : Bool). cond t (and_then (of_sheet (read_lists sheet) round) (of_round (name_given new) round)) NewRefused) (made-whole new n q)
-      ∙ ap (λ (f : Names). and_then (of_sheet (read_lists sheet) round) (of_round f round)) (made-names new n q)
+      ap (λ (t : Bool). cond t (and_then (of_sheet (read_lists sheet) round) (of_round (name_given new) round)) NewRefused) (made_whole new n q)
+      ∙ ap (λ (f : Names). and_then (of_sheet (read_lists sheet) round) (of_round f round)) (made_names new n q)
 
 module _ (old new : List ℕ) (m : Made old) (n : Made new) (p : m.mode ≡ Twoway) (q : n.mode ≡ Twoway)
     (sheet round accepted : List ℕ) where
   changes_by_puts : of_changes old new round accepted ≡ of_names (names_of m.puts) (names_of n.puts) (back_size m.puts) round accepted
   unfolding of_changes
   changes_by_puts =
-      ap (λ (t : Bool). cond t (of_names (name_given old) (name_given new) (upper_hint old 0) round accepted) OldRefused) (made-whole old m p)
-      ∙ (λ i. of_names (made-names old m p i) (made-names new n q i) (made_bound old m p i) round accepted)
+      ap (λ (t : Bool). cond t (of_names (name_given old) (name_given new) (upper_hint old 0) round accepted) OldRefused) (made_whole old m p)
+      ∙ (λ i. of_names (made_names old m p i) (made_names new n q i) (made_bound old m p i) round accepted)
 
-  verdict-by-puts : verdict old new sheet round accepted ≡ verdict_by_puts m.puts n.puts sheet round accepted
+  verdict_by_puts_lem : verdict old new sheet round accepted ≡ verdict_by_puts m.puts n.puts sheet round accepted
   unfolding verdict
-  verdict-by-puts = λ i. and_then (first_by_puts new n q sheet round i) (changes_by_puts i)
+  verdict_by_puts_lem = λ i. and_then (first_by_puts new n q sheet round i) (changes_by_puts i)
 
-  pub by-puts : preflight old new sheet round accepted ≡ by_puts m.puts n.puts sheet round accepted
-  by-puts =
-      λ i. answer_of (verdict-by-puts i) (compared_in (made-names old m p i) round) (added_in (made-names old m p i) round)
+  pub by_puts_lem : preflight old new sheet round accepted ≡ by_puts m.puts n.puts sheet round accepted
+  by_puts_lem =
+      λ i. answer_of (verdict_by_puts_lem i) (compared_in (made_names old m p i) round) (added_in (made_names old m p i) round)
       (unsighted_in (read_lists sheet) round)
 
 module _ (repeats₁ repeats₂ : Repeats) (buffer₁ buffer₂ : List ℕ) (cs₁ cs₂ : List Call)
@@ -77,8 +77,8 @@ module _ (repeats₁ repeats₂ : Repeats) (buffer₁ buffer₂ : List ℕ) (cs�
       let new = image_of Twoway repeats₂ buffer₂ cs₂ in
       let m = list_made Twoway repeats₁ buffer₁ room₁ cs₁ word₁ in
       let n = list_made Twoway repeats₂ buffer₂ room₂ cs₂ word₂ in
-      let mp : m.puts ≡ accepted_puts Twoway repeats₁ buffer₁ cs₁ = sym (made-puts old m) ∙ list_puts Twoway repeats₁ buffer₁ room₁ cs₁ word₁ in
-      let np : n.puts ≡ accepted_puts Twoway repeats₂ buffer₂ cs₂ = sym (made-puts new n) ∙ list_puts Twoway repeats₂ buffer₂ room₂ cs₂ word₂ in
-      by-puts old new m n (sym (made_mode old m) ∙ list_mode Twoway repeats₁ buffer₁ room₁ cs₁ word₁)
+      let mp : m.puts ≡ accepted_puts Twoway repeats₁ buffer₁ cs₁ = sym (made_puts old m) ∙ list_puts Twoway repeats₁ buffer₁ room₁ cs₁ word₁ in
+      let np : n.puts ≡ accepted_puts Twoway repeats₂ buffer₂ cs₂ = sym (made_puts new n) ∙ list_puts Twoway repeats₂ buffer₂ room₂ cs₂ word₂ in
+      by_puts_lem old new m n (sym (made_mode old m) ∙ list_mode Twoway repeats₁ buffer₁ room₁ cs₁ word₁)
       (sym (made_mode new n) ∙ list_mode Twoway repeats₂ buffer₂ room₂ cs₂ word₂) sheet round accepted
       ∙ (λ i. by_puts (mp i) (np i) sheet round accepted)

@@ -37,20 +37,20 @@ in_occurs id (x ∷ xs) m = by_first (in_occurs id xs) (eqb x id) refl m
     by_first ih false e (inr q) = ih q
 
 -- ---- how often
-pub passing-append : (test : ℕ → Bool) (xs ys : List ℕ) → passing test (xs ++ ys) ≡ passing test xs + passing test ys
+pub passing_append : (test : ℕ → Bool) (xs ys : List ℕ) → passing test (xs ++ ys) ≡ passing test xs + passing test ys
 unfolding passing
-passing-append test [] ys = omega arith
-passing-append test (x ∷ xs) ys = by_first (test x) (passing-append test xs ys)
+passing_append test [] ys = omega arith
+passing_append test (x ∷ xs) ys = by_first (test x) (passing_append test xs ys)
   where
     by_first : (t : Bool) → passing test (xs ++ ys) ≡ passing test xs + passing test ys
         → cond t (suc (passing test (xs ++ ys))) (passing test (xs ++ ys)) ≡ cond t (suc (passing test xs)) (passing test xs) + passing test ys
     by_first true e = omega (arith, e)
     by_first false e = e
 
-pub none-counted : (id : ℕ) (xs : List ℕ) → ¬ In id xs → count id xs ≡ 0
+pub none_counted : (id : ℕ) (xs : List ℕ) → ¬ In id xs → count id xs ≡ 0
 unfolding passing
-none-counted id [] n = refl
-none-counted id (x ∷ xs) n = by_first (none-counted id xs (λ m. n (inr m))) (eqb x id) refl
+none_counted id [] n = refl
+none_counted id (x ∷ xs) n = by_first (none_counted id xs (λ m. n (inr m))) (eqb x id) refl
   where
     by_first : count id xs ≡ 0 → (t : Bool) → eqb x id ≡ t → cond t (suc (count id xs)) (count id xs) ≡ 0
     by_first ih true e = absurd (n (inl (eqb-true x id e)))

@@ -38,8 +38,8 @@ module _ (id : ℕ) (ids : List ℕ) (i : ℕ) where
     unfolding occurs
     occurs_here e = ap (occurs id) (drop-cons ids i 0 h) ∙ simp (eq-eqb (get_or ids i 0) id e)
 
-    pub occurs-on : ¬ (get_or ids i 0 ≡ id) → occurs id (drop (i + 1) ids) ≡ occurs id (drop i ids)
+    pub occurs_on : ¬ (get_or ids i 0 ≡ id) → occurs id (drop (i + 1) ids) ≡ occurs id (drop i ids)
     unfolding occurs
-    occurs-on e =
+    occurs_on e =
         ap (λ (k : ℕ). occurs id (drop k ids)) (add-one i)
         ∙ sym (ap (occurs id) (drop-cons ids i 0 h) ∙ simp (ne_eqb (get_or ids i 0) id e))

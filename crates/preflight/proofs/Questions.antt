@@ -33,9 +33,9 @@ pub same_name : (x y : List ℕ) → some x ≡ some y → x ≡ y
 same_name x y e = cc
 
 -- ---- one name
-pub is_name : (x : Option (List ℕ)) (name : List ℕ) → is_name x name ≡ true → x ≡ some name
-is_name (some n) name h = ap some (same_true n name h)
-is_name none name h = absurd (false_not_true h)
+pub is_name_lem : (x : Option (List ℕ)) (name : List ℕ) → is_name x name ≡ true → x ≡ some name
+is_name_lem (some n) name h = ap some (same_true n name h)
+is_name_lem none name h = absurd (false_not_true h)
 
 pub name_is : (x : Option (List ℕ)) (name : List ℕ) → x ≡ some name → is_name x name ≡ true
 name_is x name e = ap (λ (y : Option (List ℕ)). is_name y name) e ∙ same_self name
@@ -45,12 +45,12 @@ no_length : (xs : List ℕ) → length xs ≡ 0 → xs ≡ []
 no_length [] h = refl
 no_length (x ∷ xs) h = absurd (omega arith)
 
-pub not-empty : (x : Option (List ℕ)) → is_empty x ≡ false → (name : List ℕ) × (x ≡ some name) × ¬ (name ≡ [])
-not-empty (some n) h = (n, refl, λ e. eqb-false (length n) 0 h (ap length e))
-not-empty none h = absurd (false_not_true (sym h))
+pub not_empty : (x : Option (List ℕ)) → is_empty x ≡ false → (name : List ℕ) × (x ≡ some name) × ¬ (name ≡ [])
+not_empty (some n) h = (n, refl, λ e. eqb-false (length n) 0 h (ap length e))
+not_empty none h = absurd (false_not_true (sym h))
 
-pub not-empty_back : (x : Option (List ℕ)) → ((name : List ℕ) × (x ≡ some name) × ¬ (name ≡ [])) → is_empty x ≡ false
-not-empty_back x w = ap is_empty w.1 ∙ ne_eqb (length w.0) 0 (λ e. w.2 (no_length w.0 e))
+pub not_empty_back : (x : Option (List ℕ)) → ((name : List ℕ) × (x ≡ some name) × ¬ (name ≡ [])) → is_empty x ≡ false
+not_empty_back x w = ap is_empty w.1 ∙ ne_eqb (length w.0) 0 (λ e. w.2 (no_length w.0 e))
 
 -- ---- another id of the round with a name
 module _ (new : Names) (name : List ℕ) (id : ℕ) where
@@ -67,7 +67,7 @@ module _ (new : Names) (name : List ℕ) (id : ℕ) where
       by_case : (t : Bool) → eqb i id ≡ t → (u : Bool) → is_name (new i) name ≡ u → cond t false u ≡ false
       by_case true d u e = refl
       by_case false d false e = refl
-      by_case false d true e = absurd (eqb-false i id d (h (is_name (new i) name e)))
+      by_case false d true e = absurd (eqb-false i id d (h (is_name_lem (new i) name e)))
 
 module _ (new : Names) (id : ℕ) (round : List ℕ) where
   pub no_other : (x : Option (List ℕ)) (name : List ℕ) → x ≡ some name → first_other new x id round ≡ place.Nothing
@@ -117,7 +117,7 @@ module _ (new : Names) (round : List ℕ) where
 module _ (old new : Names) where
   pub kept_so : (id : ℕ) (name : List ℕ) → lost old new id ≡ false → old id ≡ some name → new id ≡ some name
   kept_so id name h e =
-      is_name (new id) name (not-false _ (sym (ap (λ (x : Option (List ℕ)). lost_name x (new id)) e) ∙ h))
+      is_name_lem (new id) name (not-false _ (sym (ap (λ (x : Option (List ℕ)). lost_name x (new id)) e) ∙ h))
 
   pub lost_so : (id : ℕ) → lost old new id ≡ true → (name : List ℕ) × (old id ≡ some name) × ¬ (new id ≡ some name)
   lost_so id h = by_case (old id) refl h
@@ -127,18 +127,18 @@ module _ (old new : Names) where
       by_case none e q = absurd (false_not_true q)
 
   module _ (accepted round : List ℕ) where
-    pub not-renamed : first_renamed old new accepted round ≡ place.Nothing → (i : ℕ) (name : List ℕ) → In i round → ¬ In i accepted
+    pub not_renamed : first_renamed old new accepted round ≡ place.Nothing → (i : ℕ) (name : List ℕ) → In i round → ¬ In i accepted
         → old i ≡ some name → new i ≡ some name
-    not-renamed h i name m n e = by_case (lost old new i) refl (occurs i accepted) refl (none_passes (renamed old new accepted) 0 round h i m)
+    not_renamed h i name m n e = by_case (lost old new i) refl (occurs i accepted) refl (none_passes (renamed old new accepted) 0 round h i m)
       where
         by_case : (t : Bool) → lost old new i ≡ t → (u : Bool) → occurs i accepted ≡ u → cond t (not u) false ≡ false → new i ≡ some name
         by_case false d u f q = kept_so i name d e
         by_case true d true f q = absurd (n (occurs_in i accepted f))
         by_case true d false f q = absurd (false_not_true (sym q))
 
-    pub renamed-none : ((i : ℕ) (name : List ℕ) → In i round → ¬ In i accepted → old i ≡ some name → new i ≡ some name)
+    pub renamed_none : ((i : ℕ) (name : List ℕ) → In i round → ¬ In i accepted → old i ≡ some name → new i ≡ some name)
         → first_renamed old new accepted round ≡ place.Nothing
-    renamed-none h = passes_none (renamed old new accepted) 0 round (λ i m. by_case i m (lost old new i) refl (occurs i accepted) refl)
+    renamed_none h = passes_none (renamed old new accepted) 0 round (λ i m. by_case i m (lost old new i) refl (occurs i accepted) refl)
       where
         by_case : (i : ℕ) → In i round → (t : Bool) → lost old new i ≡ t → (u : Bool) → occurs i accepted ≡ u → cond t (not u) false ≡ false
         by_case i m false d u f = refl
@@ -156,7 +156,7 @@ module _ (old new : Names) where
   kept_alike id h = by_name (old id) refl h
     where
       by_name : (x : Option (List ℕ)) → old id ≡ x → kept_name x (new id) ≡ true → Alike
-      by_name (some name) e q = (id, name, e, is_name (new id) name q)
+      by_name (some name) e q = (id, name, e, is_name_lem (new id) name q)
       by_name none e q = absurd (false_not_true q)
 
   alike_kept : (id : ℕ) (name : List ℕ) → old id ≡ some name → new id ≡ some name → kept old new id ≡ true

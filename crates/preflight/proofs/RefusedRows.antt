@@ -41,9 +41,9 @@ second [] = true
 second (a ∷ []) = true
 second (a ∷ b ∷ l) = b
 
-damaged-not : ¬ Whole damaged
+damaged_not : ¬ Whole damaged
 unfolding second
-damaged-not w = false_not_true (sym (ap second head_only_rows_hold) ∙ w.is-canonical)
+damaged_not w = false_not_true (sym (ap second head_only_rows_hold) ∙ w.is_canonical)
 
 abbrev puts : List Entry
 puts = A 1 ∷ B 2 ∷ []
@@ -63,12 +63,12 @@ made mode = record { mode = mode; puts = puts; each = each; fits = fits mode; is
 
 one_way_not : ¬ Whole one_way
 one_way_not w =
-    let e : Oneway ≡ Twoway = sym (made_mode one_way (made Oneway)) ∙ w.two-way in
+    let e : Oneway ≡ Twoway = sym (made_mode one_way (made Oneway)) ∙ w.two_way_lem in
     let z : ◌≡◌ {A = ℕ} 0 1 = cc in
     omega arith
 
-none-whole : All (λ (image : List ℕ). ¬ Whole image) no_catalogues
-none-whole = (damaged-not, (one_way_not, (no_bytes, tt)))
+none_whole : All (λ (image : List ℕ). ¬ Whole image) no_catalogues
+none_whole = (damaged_not, (one_way_not, (no_bytes, tt)))
 
 -- ---- the answers
 abbrev round : List ℕ
@@ -96,7 +96,7 @@ as_new new n =
     (sym (first_refused new listed round (refuted (is_whole new) (whole_forth new) n)))
 
 pub refused_as_old : All RefusedAsOld no_catalogues
-refused_as_old = all_map as_old no_catalogues none-whole
+refused_as_old = all_map as_old no_catalogues none_whole
 
 pub refused_as_new : All RefusedAsNew no_catalogues
-refused_as_new = all_map as_new no_catalogues none-whole
+refused_as_new = all_map as_new no_catalogues none_whole

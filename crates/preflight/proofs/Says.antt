@@ -45,23 +45,23 @@ module _ (old new sheet round accepted : List ℕ) where
     by_taken : Whole old → SomeAlike old new → NotRenamed old new round accepted → (x : Taken) → first_taken_in old new round ≡ x → Said (of_taken x)
     by_taken w a n (taken.By j p) e = (alone, w, a, n, shows_taken old new round accepted j p e)
     by_taken w a n taken.Nothing e =
-        record { alone = alone; old-whole = w; some_alike = a; not-renamed = n; not_taken = untaken old new round accepted e }
+        record { alone = alone; old_whole = w; some_alike = a; not_renamed = n; not_taken = untaken old new round accepted e }
 
     by_renamed : Whole old → SomeAlike old new → (x : Place) → first_renamed (name_given old) (name_given new) accepted round ≡ x
         → Said (and_then (of_renamed x) (of_taken (first_taken_in old new round)))
     by_renamed w a (place.At p) e = (alone, w, a, shows_renamed old new round accepted p e)
     by_renamed w a place.Nothing e =
-        by_taken w a (asked.not-renamed (name_given old) (name_given new) accepted round e) (first_taken_in old new round) refl
+        by_taken w a (asked.not_renamed (name_given old) (name_given new) accepted round e) (first_taken_in old new round) refl
 
-    abbrev renamed-or_taken : Verdict
-    renamed-or_taken =
+    abbrev renamed_or_taken : Verdict
+    renamed_or_taken =
         and_then (of_renamed (first_renamed (name_given old) (name_given new) accepted round)) (of_taken (first_taken_in old new round))
 
-    by_alike : Whole old → (t : Bool) → some_kept_in old new ≡ t → Said (cond t renamed-or_taken NothingAlike)
+    by_alike : Whole old → (t : Bool) → some_kept_in old new ≡ t → Said (cond t renamed_or_taken NothingAlike)
     by_alike w true e = by_renamed w (alike_forth old new e) (first_renamed (name_given old) (name_given new) accepted round) refl
     by_alike w false e = (alone, w, λ a. false_not_true (sym e ∙ alike_back old new a))
 
-    by_old : (t : Bool) → is_whole old ≡ t → Said (cond t (cond (some_kept_in old new) renamed-or_taken NothingAlike) OldRefused)
+    by_old : (t : Bool) → is_whole old ≡ t → Said (cond t (cond (some_kept_in old new) renamed_or_taken NothingAlike) OldRefused)
     by_old true e = by_alike (whole_forth old e) (some_kept_in old new) refl
     by_old false e = (alone, λ w. false_not_true (sym e ∙ whole_back old w))
 
@@ -76,12 +76,12 @@ module _ (old new sheet round accepted : List ℕ) where
     by_shared o h n (shared.Places p q) e = (
       w,
       o,
-      λ i m. asked.not-empty (name_given new i) (none_passes (nameless (name_given new)) 0 round n i m),
+      λ i m. asked.not_empty (name_given new i) (none_passes (nameless (name_given new)) 0 round n i m),
       shows_shared old new round accepted p q e,
     )
     by_shared o h n shared.Nothing e =
         let named = round_forth new round (sym (round_shared (name_given new) round h shared.Nothing (sym n) (sym e))) in
-        changes_say (record { new-whole = w; on_sheet = o; round_named = named })
+        changes_say (record { new_whole = w; on_sheet = o; round_named = named })
 
     by_nameless : OnSheet sheet round → ¬ (length round ≡ 0) → (x : Place) → first_nameless (name_given new) round ≡ x
         → Said (and_then (and_then (of_nameless x) (of_shared (first_shared_in (name_given new) round))) changes)

@@ -12,7 +12,7 @@ use Rattle.reader.specs.Lookup.{lookup}
 use Rattle.reader.specs.Naming.{name_given}
 use Rattle.reader.specs.Open.{opening}
 use Rattle.lookup_laws.specs.Answer.{found_id}
-use Rattle.one_to_one.proofs.Theorem.{one-to-one}
+use Rattle.one_to_one.proofs.Theorem.{one_to_one_lem}
 use Rattle.one_to_one.proofs.Answers.{never_refused}
 use Rattle.preflight.specs.Exchanges.{some_kept_in}
 use Rattle.preflight.specs.Verdicts.{is_whole, of_changes, verdict_first, verdict}
@@ -88,9 +88,9 @@ module _ (old new sheet round accepted : List ℕ) where
       back old new sheet round accepted
       (record {
         alone = m;
-        old-whole = w;
+        old_whole = w;
         some_alike = record { id = a.0; name = a.1; then = a.2; since = g a.0 a.1 a.2 };
-        not-renamed = λ i name p q e. g i name e;
+        not_renamed = λ i name p q e. g i name e;
         not_taken = λ i j name p e d. g j name e;
       })
 
@@ -103,7 +103,7 @@ module _ (old new sheet round accepted : List ℕ) where
       → Leaves old new sheet round accepted
   renames w one m a g =
       back old new sheet round accepted
-      (record { alone = m; old-whole = w; some_alike = a; not-renamed = not-renamed; not_taken = not_taken })
+      (record { alone = m; old_whole = w; some_alike = a; not_renamed = not_renamed; not_taken = not_taken })
     where
       kept_name : (i : ℕ) (name n : List ℕ) → ¬ In i accepted → name_given old i ≡ some name → name_given new i ≡ some n → InOrder i n
           → name_given new i ≡ some name
@@ -111,8 +111,8 @@ module _ (old new sheet round accepted : List ℕ) where
       kept_name i name n q e d (inr (inl o, f)) = none_some name (sym o ∙ e)
       kept_name i name n q e d (inr (inr o, f)) = absurd (q o)
 
-      not-renamed : (i : ℕ) (name : List ℕ) → In i round → ¬ In i accepted → name_given old i ≡ some name → name_given new i ≡ some name
-      not-renamed i name p q e =
+      not_renamed : (i : ℕ) (name : List ℕ) → In i round → ¬ In i accepted → name_given old i ≡ some name → name_given new i ≡ some name
+      not_renamed i name p q e =
           let h = m.round_named.named i p in
           kept_name i name h.0 q e h.1 (g i h.0 p h.1)
 
@@ -151,7 +151,7 @@ module _ (old new sheet round accepted : List ℕ) where
 
 pub no_bytes : ¬ Whole []
 unfolding opening
-no_bytes w = never_refused [] 1 (λ i. lit< tt) w.is-canonical refl
+no_bytes w = never_refused [] 1 (λ i. lit< tt) w.is_canonical refl
 
 one_id : (x : Option ℕ) (i j : ℕ) → x ≡ some i → x ≡ some j → i ≡ j
 one_id x i j e f = let s : some i ≡ some j = sym e ∙ f in cc
@@ -163,7 +163,7 @@ leaves = record {
   no_false_movement = λ old new sheet round accepted i j name h m e d. (forth old new sheet round accepted h).not_taken i j name m e d;
   no_false_movement_one = λ old new sheet round accepted i j name bytes one h m e d.
       let l = forth old new sheet round accepted h in
-      let both_ways = one-to-one.inverse new bytes l.alone.new-whole.two-way one name in
+      let both_ways = one_to_one_lem.inverse new bytes l.alone.new_whole.two_way_lem one name in
       one_id (found_id (lookup new name)) i j ((both_ways i).1 d) ((both_ways j).1 (l.not_taken i j name m e d));
   one_sighting_one_name = λ old new sheet round accepted i k h m n e.
       (forth old new sheet round accepted h).alone.round_named.one_name i k m n e;
@@ -177,7 +177,7 @@ leaves = record {
   nothing_alike = nothing_alike;
   no_bytes = no_bytes;
   same_leaves = λ image sheet round accepted m.
-      gained image image sheet round accepted m.new-whole m (λ id name e. e) (someone image sheet round m);
+      gained image image sheet round accepted m.new_whole m (λ id name e. e) (someone image sheet round m);
   gained_leaves = gained;
   renames_leave = renames;
   of_lists = of_lists;

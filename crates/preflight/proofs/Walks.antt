@@ -67,8 +67,8 @@ module _ (image : List ℕ) (i u : ℕ) (e : i ≡ 0) (f : u ≡ upper_hint imag
       let k : u - 0 ≡ u = omega arith in
       k ∙ f ∙ ap (upper_hint image) e
 
-  pub kept-start : (new : List ℕ) → some_kept (name_given image) (name_given new) 0 (u - 0) ≡ some_kept_in image new
-  kept-start new = ap (some_kept (name_given image) (name_given new) 0) all_ids
+  pub kept_start : (new : List ℕ) → some_kept (name_given image) (name_given new) 0 (u - 0) ≡ some_kept_in image new
+  kept_start new = ap (some_kept (name_given image) (name_given new) 0) all_ids
 
   pub taken_start : (new round : List ℕ) → first_taken (name_given image) (name_given new) round 0 (u - 0) ≡ first_taken_in image new round
   taken_start new round = ap (first_taken (name_given image) (name_given new) round 0) all_ids

@@ -15,8 +15,8 @@ use Rattle.preflight.specs.declared.Verdict.{Verdict}
 use Rattle.preflight.specs.declared.Verdict.TheVariants as verdict
 use Rattle.preflight.specs.declared.Verdict.TheVariants.{Yes}
 
-pub no-yes : {P : Type 0} (a : Verdict) → is_yes a ≡ false → a ≡ Yes → P
-no-yes a h e = absurd (false_not_true (sym h ∙ ap is_yes e))
+pub no_yes : {P : Type 0} (a : Verdict) → is_yes a ≡ false → a ≡ Yes → P
+no_yes a h e = absurd (false_not_true (sym h ∙ ap is_yes e))
 
 pub yes_only : (a : Verdict) → is_yes a ≡ true → a ≡ Yes
 yes_only Yes h = refl
@@ -36,31 +36,31 @@ both a b h = by_case (is_yes a) refl h
   where
     by_case : (t : Bool) → is_yes a ≡ t → cond t b a ≡ Yes → (a ≡ Yes) × (b ≡ Yes)
     by_case true e q = (yes_only a e, q)
-    by_case false e q = no-yes a e q
+    by_case false e q = no_yes a e q
 
 pub both_back : (a b : Verdict) → a ≡ Yes → b ≡ Yes → and_then a b ≡ Yes
 both_back a b e f = ap (λ (x : Verdict). and_then x b) e ∙ f
 
 pub unless : (t : Bool) (a b : Verdict) → is_yes b ≡ false → cond t a b ≡ Yes → (t ≡ true) × (a ≡ Yes)
 unless true a b n h = (refl, h)
-unless false a b n h = no-yes b n h
+unless false a b n h = no_yes b n h
 
-pub nameless-none : (x : Place) → of_nameless x ≡ Yes → x ≡ place.Nothing
-nameless-none (place.At p) h = no-yes (verdict.Nameless p) refl h
-nameless-none place.Nothing h = refl
+pub nameless_none : (x : Place) → of_nameless x ≡ Yes → x ≡ place.Nothing
+nameless_none (place.At p) h = no_yes (verdict.Nameless p) refl h
+nameless_none place.Nothing h = refl
 
 pub shared_none : (x : Shared) → of_shared x ≡ Yes → x ≡ shared.Nothing
-shared_none (shared.Places p q) h = no-yes (verdict.OneName p q) refl h
+shared_none (shared.Places p q) h = no_yes (verdict.OneName p q) refl h
 shared_none shared.Nothing h = refl
 
-pub renamed-none : (x : Place) → of_renamed x ≡ Yes → x ≡ place.Nothing
-renamed-none (place.At p) h = no-yes (verdict.Renamed p) refl h
-renamed-none place.Nothing h = refl
+pub renamed_none : (x : Place) → of_renamed x ≡ Yes → x ≡ place.Nothing
+renamed_none (place.At p) h = no_yes (verdict.Renamed p) refl h
+renamed_none place.Nothing h = refl
 
 pub taken_none : (x : Taken) → of_taken x ≡ Yes → x ≡ taken.Nothing
-taken_none (taken.By id p) h = no-yes (verdict.NameTaken id p) refl h
+taken_none (taken.By id p) h = no_yes (verdict.NameTaken id p) refl h
 taken_none taken.Nothing h = refl
 
 pub off_none : (x : Place) → of_off x ≡ Yes → x ≡ place.Nothing
-off_none (place.At p) h = no-yes (verdict.OffSheet p) refl h
+off_none (place.At p) h = no_yes (verdict.OffSheet p) refl h
 off_none place.Nothing h = refl

@@ -11,10 +11,10 @@ use Rattle.reader.specs.Theorems.Bounds.{Bounds}
 
 -- ---- how many buckets are read
 
-pub search_along-reads : (look : ℕ → Probe) (ks : List ℕ) (r : ℕ) → reads (search_along look ks r) ≤ r + length ks
+pub search_along_reads : (look : ℕ → Probe) (ks : List ℕ) (r : ℕ) → reads (search_along look ks r) ≤ r + length ks
 unfolding search_along
-search_along-reads look [] r = omega arith
-search_along-reads look (k ∷ ks) r = decided (look k) (search_along-reads look ks (r + 1))
+search_along_reads look [] r = omega arith
+search_along_reads look (k ∷ ks) r = decided (look k) (search_along_reads look ks (r + 1))
   where
     decided : (s : Probe) → reads (search_along look ks (r + 1)) ≤ r + 1 + length ks
         → reads (decide s (r + 1) (search_along look ks (r + 1))) ≤ r + suc (length ks)
@@ -25,12 +25,12 @@ search_along-reads look (k ∷ ks) r = decided (look k) (search_along-reads look
 pub search_reads : (image name : List ℕ) (h o n : ℕ) → reads (search_table image name h o n) ≤ n
 unfolding search_table
 search_reads image name h o n =
-    omega (arith, search_along-reads (λ (k : ℕ). probe_bucket image name h (o + 8 * k)) (probe_sequence n n (start h n)) 0, length-probe_sequence n n (start h n))
+    omega (arith, search_along_reads (λ (k : ℕ). probe_bucket image name h (o + 8 * k)) (probe_sequence n n (start h n)) 0, length-probe_sequence n n (start h n))
 
 -- at most n, where n is the number of buckets of the name's table; and none where nothing is searched
-pub lookup-reads : (image name : List ℕ) → reads (lookup image name) ≤ bucket_number image (table_of (hash_of name))
+pub lookup_reads : (image name : List ℕ) → reads (lookup image name) ≤ bucket_number image (table_of (hash_of name))
 unfolding lookup lookup_hash
-lookup-reads image name =
+lookup_reads image name =
     either (ltb (length image) 2072) (cond (leb 4294967295 (length name)) (nothing 0) (lookup_hash image name (hash_of name)))
     (either (leb 4294967295 (length name)) (lookup_hash image name (hash_of name))
     (either (unsearched image t) (search_table image name (hash_of name) (table_at image t) (bucket_number image t))
@@ -44,11 +44,11 @@ lookup-reads image name =
     either false a h = h
 
 -- no bucket is read: an image under 2,072 bytes, a name of 4,294,967,295 bytes or more, a table with offset 0, bucket number 0 or an end past the image
-pub lookup-unsearched : (image name : List ℕ)
+pub lookup_unsearched : (image name : List ℕ)
     → (ltb (length image) 2072 || leb 4294967295 (length name) || unsearched image (table_of (hash_of name))) ≡ true
     → lookup image name ≡ nothing 0
 unfolding lookup lookup_hash
-lookup-unsearched image name e =
+lookup_unsearched image name e =
     either (ltb (length image) 2072) (leb 4294967295 (length name))
     (unsearched image t)
     (search_table image name (hash_of name) (table_at image t) (bucket_number image t)) e
@@ -87,7 +87,7 @@ pub bounds : Bounds
 bounds =
     record {
       search_reads = search_reads;
-      lookup-reads = lookup-reads;
-      lookup-unsearched = lookup-unsearched;
+      lookup_reads = lookup_reads;
+      lookup_unsearched = lookup_unsearched;
       bucket_inside = bucket_inside;
     }

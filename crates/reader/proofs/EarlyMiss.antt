@@ -79,9 +79,9 @@ module _ (image name : List ℕ) (h o n : ℕ) where
     ]
 
     -- by the first offset that is 0; x, y, z are those in the first three buckets k, i, j
-    pub early-miss : (i j x y z r : ℕ) → i ≡ next n k → j ≡ next n i → x ≡ offset k → y ≡ offset i → z ≡ offset j → (hash k ≡ h → ⊥) → (hash i ≡ h → ⊥)
+    pub early_miss : (i j x y z r : ℕ) → i ≡ next n k → j ≡ next n i → x ≡ offset k → y ≡ offset i → z ≡ offset j → (hash k ≡ h → ⊥) → (hash i ≡ h → ⊥)
         → FirstZero x y z r → 0 < r → search_table image name h o n ≡ nothing r
-    early-miss i j x y z r ei ej ex ey ez d₀ d₁ = by_first_zero r
+    early_miss i j x y z r ei ej ex ey ez d₀ d₁ = by_first_zero r
       where
         second : offset (next n k) ≡ y
         second = ap offset (sym ei) ∙ sym ey

@@ -9,13 +9,13 @@ use Rattle.image.specs.Bytes.{word, le32, same}
 use Rattle.image.specs.Tables.{table_of, next}
 use Rattle.image.specs.Image.{head_bytes}
 use Rattle.image.specs.Head.{table_at, bucket_number}
-use Rattle.image.proofs.Words.{word-drop}
+use Rattle.image.proofs.Words.{word_drop}
 use Rattle.reader.specs.Open.{some_past_end, num_from, opening}
 use Rattle.reader.specs.Lookup.{found, nothing, Probe, pass, hit, probe_entry, probe_bucket, decide, lookup}
 use Rattle.reader.specs.Examples.Reads.{row_of, head_of, c9, c10, taken_image, OneTaken, own_image, ReadsHold}
 use Rattle.reader.proofs.Opens.{opening_by}
 use Rattle.reader.specs.Steps.Resume.{search_rest}
-use Rattle.reader.proofs.Searches.{probe_bucket_by, rest_start, rest_over, rest_step, lookup_hash_by, lookup-by}
+use Rattle.reader.proofs.Searches.{probe_bucket_by, rest_start, rest_over, rest_step, lookup_hash_by, lookup_by_lem}
 
 -- ---- the rows of a head one after the other, so that they are computed in one pass
 
@@ -33,10 +33,10 @@ from_row image t = drop (24 + 8 * t) image
 
 module _ (image : List ℕ) (t : ℕ) where
   at_row : word image (24 + 8 * t) ≡ word (from_row image t) 0
-  at_row = let e : 24 + 8 * t ≡ 24 + 8 * t + 0 = omega arith in ap (word image) e ∙ sym (word-drop image (24 + 8 * t) 0)
+  at_row = let e : 24 + 8 * t ≡ 24 + 8 * t + 0 = omega arith in ap (word image) e ∙ sym (word_drop image (24 + 8 * t) 0)
 
   number_row : word image (28 + 8 * t) ≡ word (from_row image t) 4
-  number_row = let e : 28 + 8 * t ≡ 24 + 8 * t + 4 = omega arith in ap (word image) e ∙ sym (word-drop image (24 + 8 * t) 4)
+  number_row = let e : 28 + 8 * t ≡ 24 + 8 * t + 4 = omega arith in ap (word image) e ∙ sym (word_drop image (24 + 8 * t) 4)
 
   next_row : from_row image (suc t) ≡ drop 8 (from_row image t)
   next_row = let e : 24 + 8 * suc t ≡ 24 + 8 * t + 8 = omega arith in ap (λ (k : ℕ). drop k image) e ∙ sym (drop-drop 8 (24 + 8 * t) image)
@@ -77,7 +77,7 @@ one_read : (image name : List ℕ) (o : ℕ) (seen : Probe) → 2072 ≤ length 
     → 0 < o → 1 ≡ bucket_number image (table_of (hash_of name)) → o + 8 ≤ length image → seen ≡ probe_bucket image name (hash_of name) o
     → lookup image name ≡ decide seen 1 (nothing 1)
 one_read image name o seen head short offset above one inside sees =
-    sym (lookup-by image name false false (le-ltb (length image) 2072 head) (lt-leb 4294967295 (length name) short))
+    sym (lookup_by_lem image name false false (le-ltb (length image) 2072 head) (lt-leb 4294967295 (length name) short))
     ∙ sym
     (lookup_hash_by image name h o 1 false false false offset one (ne_eqb o 0 (λ z. omega arith)) refl (le-ltb (length image) (o + 8 * 1) (omega arith)))
     ∙ sym (rest_start image name h o 1)

@@ -93,7 +93,7 @@ module _ (image name : List ℕ) (f : Found) where
       let s = sighted image name (hash_of name) (o + 8 * bucket_read name n f.buckets) (record { id = f.id; offset = f.offset })
       (ap (λ (k : ℕ). probe_bucket image name (hash_of name) (o + 8 * get_or ks k 0)) (sym i) ∙ d.seen) in
       record {
-        in-table = rw i at (probe_sequence_below n n (start (hash_of name) n) d.place (mod-lt (hash_of name / 256) {m = n} some-bucket) below);
+        in_table = rw i at (probe_sequence_below n n (start (hash_of name) n) d.place (mod-lt (hash_of name / 256) {m = n} some-bucket) below);
         inside = fits;
         hash = s.hash;
         offset = s.offset;
@@ -112,8 +112,8 @@ module _ (image name : List ℕ) (f : Found) where
       let long = leb 4294967295 (length name) in
       let in_image = chose_second (ltb (length image) 2072) (nothing 0) (cond long (nothing 0) by_hash) (found f) (not_found 0 f) e in
       let hashed = chose_second long (nothing 0) by_hash (found f) (not_found 0 f) in_image.1 in
-      let in-table = search_table image name (hash_of name) o n in
-      let searched = chose_second (unsearched image t) (nothing 0) in-table (found f) (not_found 0 f) hashed.1 in
+      let in_table = search_table image name (hash_of name) o n in
+      let searched = chose_second (unsearched image t) (nothing 0) in_table (found f) (not_found 0 f) hashed.1 in
       let row = or_false_first (eqb o 0 || eqb n 0) (table_past_end image t) searched.0 in
       let some-bucket = eqb-false n 0 (or_false_second (eqb o 0) (eqb n 0) row) in
       let fits = ltb-false (length image) (o + 8 * n) (or_false_second (eqb o 0 || eqb n 0) (table_past_end image t) searched.0) in

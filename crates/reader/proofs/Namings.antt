@@ -29,17 +29,17 @@ back_word image id o at e f = f ∙ ap (λ (k : ℕ). word image (k + 4 * id)) e
 
 -- naming by its four tests, for an entry at `at`
 module _ (image : List ℕ) (id at : ℕ) where
-  naming-at : at ≡ word image (back_offset_at image + 4 * id)
+  naming_at_lem : at ≡ word image (back_offset_at image + 4 * id)
       → cond (no_back image) unnamed (cond (leb (back_size_at image) id) unnamed (naming_at image at)) ≡ naming image id
   unfolding naming
-  naming-at e = ap (λ (k : ℕ). cond (no_back image) unnamed (cond (leb (back_size_at image) id) unnamed (naming_at image k))) e
+  naming_at_lem e = ap (λ (k : ℕ). cond (no_back image) unnamed (cond (leb (back_size_at image) id) unnamed (naming_at image k))) e
 
   pub naming_by : (b l z x : Bool) → at ≡ word image (back_offset_at image + 4 * id)
       → no_back image ≡ b → leb (back_size_at image) id ≡ l → eqb at 0 ≡ z → broken image at ≡ x
       → cond b unnamed (cond l unnamed (cond (z || x) unnamed (place (at + 8) (word image (at + 4) - 1)))) ≡ naming image id
   unfolding naming_at
   naming_by b l z x e eb el ez ex =
-      sym (λ i. cond (eb i) unnamed (cond (el i) unnamed (cond (ez i || ex i) unnamed (place (at + 8) (word image (at + 4) - 1))))) ∙ naming-at e
+      sym (λ i. cond (eb i) unnamed (cond (el i) unnamed (cond (ez i || ex i) unnamed (place (at + 8) (word image (at + 4) - 1))))) ∙ naming_at_lem e
 
 -- a place is that of a name in the image, of an id below back size
 pub record HasPlace (image : List ℕ) (id s n : ℕ) : Type 0 where
@@ -70,8 +70,8 @@ named_slice image other x s n e =
     let k : s + n - s ≡ n = omega arith in
     ap (subslice image s) k ∙ ap (slice_or image other) e
 
-pub no-slice : (image other : Slice) (x : Naming) → unnamed ≡ x → other ≡ slice_or image other x
-no-slice image other x e = ap (slice_or image other) e
+pub no_slice : (image other : Slice) (x : Naming) → unnamed ≡ x → other ≡ slice_or image other x
+no_slice image other x e = ap (slice_or image other) e
 
 -- the upper hint, for a back size w
 pub hint_none : (image : List ℕ) (n : ℕ) → no_back image ≡ true → 0 ≡ upper_hint image n

@@ -34,8 +34,8 @@ past_end_more : (image : List ℕ) (t k : ℕ) → some_past_end image t (suc k)
 unfolding some_past_end
 past_end_more image t k = refl
 
-pub num_from-step : (image : List ℕ) (t m : ℕ) → t < m → num_from image t (m - t) ≡ bucket_number image t / 2 + num_from image (t + 1) (m - (t + 1))
-num_from-step image t m h =
+pub num_from_step : (image : List ℕ) (t m : ℕ) → t < m → num_from image t (m - t) ≡ bucket_number image t / 2 + num_from image (t + 1) (m - (t + 1))
+num_from_step image t m h =
     ap (num_from image t) (left_one t m h) ∙ num_from_more image t (m - (t + 1))
     ∙ ap (λ (k : ℕ). bucket_number image t / 2 + num_from image k (m - (t + 1))) (sym (add-one t))
 
@@ -67,9 +67,9 @@ past_end_pass image t m a n h ea en l =
     ∙ ap (λ (c : Bool). c || some_past_end image (t + 1) (m - (t + 1))) (and-false (ltb 0 (table_at image t))))
 
 -- no table is left
-pub num_from-none : (image : List ℕ) (t : ℕ) → num_from image t 0 ≡ 0
+pub num_from_none : (image : List ℕ) (t : ℕ) → num_from image t 0 ≡ 0
 unfolding num_from
-num_from-none image t = refl
+num_from_none image t = refl
 
 pub past_end_none : (image : List ℕ) (t : ℕ) → some_past_end image t 0 ≡ false
 unfolding some_past_end

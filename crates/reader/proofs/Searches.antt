@@ -121,10 +121,10 @@ lookup_hash_by image name h at n z y x ea en ez ey ex =
     sym (λ i. cond (ez i || ey i || ex i) (nothing 0) (search_table image name h at n))
     ∙ (λ i. cond (eqb (ea i) 0 || eqb (en i) 0 || ltb (length image) (ea i + 8 * en i)) (nothing 0) (search_table image name h (ea i) (en i)))
 
-pub lookup-by : (image name : List ℕ) (s l : Bool) → ltb (length image) 2072 ≡ s → leb 4294967295 (length name) ≡ l
+pub lookup_by_lem : (image name : List ℕ) (s l : Bool) → ltb (length image) 2072 ≡ s → leb 4294967295 (length name) ≡ l
     → cond s (nothing 0) (cond l (nothing 0) (lookup_hash image name (hash_of name))) ≡ lookup image name
 unfolding lookup
-lookup-by image name s l es el = sym (λ i. cond (es i) (nothing 0) (cond (el i) (nothing 0) (lookup_hash image name (hash_of name))))
+lookup_by_lem image name s l es el = sym (λ i. cond (es i) (nothing 0) (cond (el i) (nothing 0) (lookup_hash image name (hash_of name))))
 
 -- with a hash at hand
 pub lookup_with : (image name : List ℕ) (h : ℕ) (s l : Bool) → ltb (length image) 2072 ≡ s → leb 4294967295 (length name) ≡ l

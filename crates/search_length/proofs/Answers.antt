@@ -19,11 +19,11 @@ use Rattle.search_length.specs.Average.{entry_count, first_refusal, average_refu
 
 -- no refusal: the image is canonical, and there are entries
 pub first_zero : (own : Bool) (n : ℕ) → first_refusal own n ≡ 0 → (own ≡ true) × (0 < n)
-first_zero true n e = (refl, not-empty (eqb n 0) refl e)
+first_zero true n e = (refl, not_empty (eqb n 0) refl e)
   where
-    not-empty : (t : Bool) → eqb n 0 ≡ t → ◌≡◌ {A = ℕ} (cond t 18 0) 0 → 0 < n
-    not-empty true a b = absurd (omega arith)
-    not-empty false a b = above n a
+    not_empty : (t : Bool) → eqb n 0 ≡ t → ◌≡◌ {A = ℕ} (cond t 18 0) 0 → 0 < n
+    not_empty true a b = absurd (omega arith)
+    not_empty false a b = above n a
       where
         above : (k : ℕ) → eqb k 0 ≡ false → 0 < k
         above k h = elim (dec_lt 0 k) [

@@ -21,7 +21,7 @@ use Rattle.lookup_laws.specs.Answer.{found_id, table_puts}
 use Rattle.lookup_laws.proofs.ImageAnswers.{found_reads}
 use Rattle.canonical.specs.Steps.Made.{Made}
 use Rattle.canonical.specs.Canonical.{canonical, puts_in}
-use Rattle.canonical.proofs.ReadBack.{ids_of, made-puts, canonical_only}
+use Rattle.canonical.proofs.ReadBack.{ids_of, made_puts, canonical_only}
 use Rattle.canonical.proofs.Theorem.{canonical_holds}
 use Rattle.search_length.specs.SearchLengths.{search_length}
 
@@ -83,7 +83,7 @@ module _ (img : List ℕ) (bytes : AllBytes img) (own : canonical img ≡ true) 
       let m = made in
       let most = found_reads m.mode m.puts m.fits (backs m.puts (ids_of m.puts m.each)) name f
       (ap (λ (i : List ℕ). lookup i name) m.is ∙ e) in
-      rw (made-puts img m) most
+      rw (made_puts img m) most
 
   one_bounded : (e : Entry) → (id : ℕ) × (found_id (lookup img e.name) ≡ some id) → Bounded img (puts_in img) e
   one_bounded e h = bounded_by (lookup img e.name) refl h.1

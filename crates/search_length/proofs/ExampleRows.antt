@@ -25,8 +25,8 @@ use Rattle.reader.proofs.Searches.{lookup_own}
 use Rattle.reader.specs.Open.{opening}
 use Rattle.canonical.specs.Steps.Made.{Storable, Made}
 use Rattle.canonical.specs.Canonical.{puts_in, no_zero_bytes, canonical}
-use Rattle.canonical.proofs.ReadBack.{made-puts, canonical-yes}
-use Rattle.search_length.specs.SearchLengths.{total_of}
+use Rattle.canonical.proofs.ReadBack.{made_puts, canonical_yes}
+use Rattle.search_length.specs.SearchLengths.{total_of_lem}
 use Rattle.search_length.specs.Average.{entry_count, total, averaging}
 use Rattle.search_length.specs.Examples.Rows.{Averages, letter, average_rows}
 use Rattle.search_length.specs.declared.AverageLength.{AverageLength}
@@ -39,16 +39,16 @@ module _ (mode : Mode) (es : List Entry) (each : All Storable es) (fits : image_
 
   entries_are : puts_in (image mode es) ≡ es
   unfolding made
-  entries_are = made-puts (image mode es) made
+  entries_are = made_puts (image mode es) made
 
   -- so its average follows from the lookups alone
-  averaged : (n s : ℕ) → length es ≡ n → 0 < n → total_of (image mode es) es ≡ s
+  averaged : (n s : ℕ) → length es ≡ n → 0 < n → total_of_lem (image mode es) es ≡ s
       → averaging (image mode es) ≡ value (record { entries = n; quotient = s / n; remainder = s % n })
   unfolding averaging total
   averaged n s long some sum =
       let number : entry_count (image mode es) ≡ n = ap length entries_are ∙ long in
-      let all : total (image mode es) ≡ s = ap (total_of (image mode es)) entries_are ∙ sum in
-      let none = average_search.accepted (image mode es) (canonical-yes (image mode es) made) (omega (arith, number)) in
+      let all : total (image mode es) ≡ s = ap (total_of_lem (image mode es)) entries_are ∙ sum in
+      let none = average_search.accepted (image mode es) (canonical_yes (image mode es) made) (omega (arith, number)) in
       rw none (ap₂ average_from all number)
     where
       average_from : ℕ → ℕ → Outcome AverageLength
@@ -121,22 +121,22 @@ module _ (mode : Mode) (e₁ e₂ : Entry) (h₁ h₂ : ℕ) (is₁ : hash_of e�
       ++ cat (λ (t : ℕ). cat bucket_bytes (filled (2 * length (entries_of t i)) (buckets_of t i))) (range 0 256)
       ++ back_words (p₁ ∷ p₂ ∷ []) (back_size_of mode es)
 
-  total-of : total_of (image mode es) es ≡ reads (lookup_by bytes e₁.name h₁) + (reads (lookup_by bytes e₂.name h₂) + 0)
-  unfolding total_of
-  total-of =
-      ap (λ (l : List ℕ). total_of l es) bytes_are
+  total_of : total_of_lem (image mode es) es ≡ reads (lookup_by bytes e₁.name h₁) + (reads (lookup_by bytes e₂.name h₂) + 0)
+  unfolding total_of_lem
+  total_of =
+      ap (λ (l : List ℕ). total_of_lem l es) bytes_are
       ∙ ap₂ (λ (x y : Lookup). reads x + (reads y + 0)) (sym (lookup_own bytes e₁.name h₁ (λ s. sym is₁)))
       (sym (lookup_own bytes e₂.name h₂ (λ s. sym is₂)))
 
-crowded : total_of (image Twoway (letter 73 0 ∷ letter 81 1 ∷ [])) (letter 73 0 ∷ letter 81 1 ∷ []) ≡ 3
+crowded : total_of_lem (image Twoway (letter 73 0 ∷ letter 81 1 ∷ [])) (letter 73 0 ∷ letter 81 1 ∷ []) ≡ 3
 unfolding word le32 cat range same entry_bytes entries_size bucket_bytes back_size placed_of_id last_from back_word back_offset head_bytes head_words back_words
     probe_sequence first_empty insert insert_all filled probe_entry probe_bucket search_along search_table lookup_hash lookup_by before bytes
-crowded = total-of Twoway (letter 73 0) (letter 81 1) 0xcae4bcb3 0x27d3a0b3 hash_I hash_Q
+crowded = total_of Twoway (letter 73 0) (letter 81 1) 0xcae4bcb3 0x27d3a0b3 hash_I hash_Q
 
-repeated : total_of (image Oneway (letter 65 5 ∷ letter 65 9 ∷ [])) (letter 65 5 ∷ letter 65 9 ∷ []) ≡ 2
+repeated : total_of_lem (image Oneway (letter 65 5 ∷ letter 65 9 ∷ [])) (letter 65 5 ∷ letter 65 9 ∷ []) ≡ 2
 unfolding word le32 cat range same entry_bytes entries_size bucket_bytes back_size placed_of_id last_from back_word back_offset head_bytes head_words back_words
     probe_sequence first_empty insert insert_all filled probe_entry probe_bucket search_along search_table lookup_hash lookup_by before bytes
-repeated = total-of Oneway (letter 65 5) (letter 65 9) 0x89284101 0x89284101 hash_A hash_A
+repeated = total_of Oneway (letter 65 5) (letter 65 9) 0x89284101 0x89284101 hash_A hash_A
 
 -- no bytes are no image
 nothing : canonical [] ≡ false
@@ -152,9 +152,9 @@ rows_hold = (
   (
     averaged Oneway (letter 65 5 ∷ letter 65 9 ∷ []) (storable 65 5 refl (lit< tt), (storable 65 9 refl (lit< tt), tt)) (lit≤ tt) 2 2 refl (lit< tt) repeated,
     (
-      average_search.no_entries (image Twoway []) (canonical-yes (image Twoway []) (made Twoway [] tt (lit≤ tt)))
+      average_search.no_entries (image Twoway []) (canonical_yes (image Twoway []) (made Twoway [] tt (lit≤ tt)))
           (ap length (entries_are Twoway [] tt (lit≤ tt))),
-      (average_search.not-canonical [] nothing, tt),
+      (average_search.not_canonical [] nothing, tt),
     ),
   ),
 )

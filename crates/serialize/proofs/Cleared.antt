@@ -5,12 +5,12 @@ use lib.Seq.{sets, sets-eq}
 use Rattle.image.specs.Image.{Entry, head_size, placed, flag_word, back_in, back_size, back_size_of, entries_end, image_size}
 use Rattle.image.specs.Image.{back_offset, head_bytes, head_words, table_rows, back_words}
 use Rattle.image.specs.declared.Mode.{Mode}
-use Rattle.image.proofs.Sizes.{length-placed, length-head_words, length-table_rows, length-back_words, back_in-twice}
-use Rattle.image.proofs.Stores.{sets_then, sets_right_at, sets-whole}
+use Rattle.image.proofs.Sizes.{length_placed, length-head_words, length-table_rows, length-back_words, back_in_twice}
+use Rattle.image.proofs.Stores.{sets_then, sets_right_at, sets_whole}
 use Rattle.image.proofs.Parts.{placed_in}
 use Rattle.serialize.specs.Record.{finished_of}
 use Rattle.image.specs.Stored.{between}
-use Rattle.serialize.specs.Steps.Written.{rows_from, back_offset_of, headed, zeroed, begun_image}
+use Rattle.serialize.specs.Steps.Written.{rows_from_lem, back_offset_of, headed, zeroed, begun_image}
 use Rattle.serialize.proofs.HeadRows.{Counts, rows_image}
 use Rattle.serialize.proofs.PartialImage.{tables_with, up_to_entries, length_up_to_entries, partial, zeros_both, zeros_back_words}
 use Rattle.serialize.proofs.InsertStep.{store_in}
@@ -64,7 +64,7 @@ module _ (mode : Mode) (end entries back : ℕ) (counts buf : List ℕ) (es : Li
   size = finished_of mode end entries back
 
   pub back_is : back_in mode back ≡ back_size_of mode es
-  back_is = ap (back_in mode) numbers.backs ∙ back_in-twice mode (back_size es)
+  back_is = ap (back_in mode) numbers.backs ∙ back_in_twice mode (back_size es)
 
   pub size_is : size ≡ image_size mode es
   size_is = omega (arith, back_is, numbers.ends, numbers.number)
@@ -83,8 +83,8 @@ module _ (mode : Mode) (end entries back : ℕ) (counts buf : List ℕ) (es : Li
       ∙ ap (λ (n : ℕ). head_bytes (image_size mode es) (flag_word mode) n (back_offset_of mode end entries back)) back_is
       ∙ ap (head_bytes (image_size mode es) (flag_word mode) (back_size_of mode es)) back_offset_is
 
-  rows_are : rows_from counts end 0 256 ≡ table_rows (entries_end es) (placed_in es)
-  rows_are = ap (λ (o : ℕ). rows_from counts o 0 256) numbers.ends ∙ rows_image counts (entries_end es) (placed_in es) numbers.tallies
+  rows_are : rows_from_lem counts end 0 256 ≡ table_rows (entries_end es) (placed_in es)
+  rows_are = ap (λ (o : ℕ). rows_from_lem counts o 0 256) numbers.ends ∙ rows_image counts (entries_end es) (placed_in es) numbers.tallies
 
   zeros_back : replicate (size - (end + 16 * entries)) 0 ≡ back_words [] (back_size_of mode es)
   zeros_back =
@@ -101,7 +101,7 @@ module _ (mode : Mode) (end entries back : ℕ) (counts buf : List ℕ) (es : Li
       let from = end + 16 * entries in
       let z : List ℕ = replicate (size - from) 0 in
       let h = head_bytes size (flag_word mode) (back_in mode back) (back_offset_of mode end entries back) in
-      let r = rows_from counts end 0 256 in
+      let r = rows_from_lem counts end 0 256 in
       let H = head_words mode es in
       let R = table_rows (entries_end es) (placed_in es) in
       let E = between buf head_size end in
@@ -132,6 +132,6 @@ cleared_partial mode es R L tail long =
     let same : length z ≡ length (R ++ L) = length-replicate {A = ℕ} n 0 ∙ size ∙ sym long in
     ap (λ (l : List ℕ). sets l (entries_end es) z) (ap (λ (l : List ℕ). l ++ tail) (append_assoc U R L))
     ∙ store_in U (R ++ L) tail z (entries_end es) 0 (omega (arith, length_up_to_entries mode es)) (omega (arith, same))
-    ∙ ap (λ (l : List ℕ). U ++ l ++ tail) (ap (λ (l : List ℕ). sets l 0 z) (sym (append-nil (R ++ L))) ∙ sets-whole z (R ++ L) [] same ∙ append-nil z)
-    ∙ ap (λ (l : List ℕ). U ++ l ++ tail) (zeros_both (placed_in es) (back_size_of mode es) n (omega (arith, length-placed head_size es)))
+    ∙ ap (λ (l : List ℕ). U ++ l ++ tail) (ap (λ (l : List ℕ). sets l 0 z) (sym (append-nil (R ++ L))) ∙ sets_whole z (R ++ L) [] same ∙ append-nil z)
+    ∙ ap (λ (l : List ℕ). U ++ l ++ tail) (zeros_both (placed_in es) (back_size_of mode es) n (omega (arith, length_placed head_size es)))
     ∙ ap (λ (l : List ℕ). l ++ tail) (sym (append_assoc U T W))

@@ -5,9 +5,9 @@ use lib.Seq.{sets}
 use Rattle.jhash.specs.NameHash.{hash_of}
 use Rattle.image.specs.Bytes.{le32, cat, filter, range}
 use Rattle.image.specs.Tables.{Bucket, table_of, start, next, probe_sequence, first_empty, at_of, insert, filled}
-use Rattle.image.specs.Image.{Placed, in_table, of_table, count, bucket_of, bucket_bytes, entries_before, has_id, placed_of_id, last_from, back_word, back_words}
-use Rattle.image.proofs.Words.{length-le32}
-use Rattle.image.proofs.Lists.{length-cat, filter-yes, filter-no, filter-append, length-range}
+use Rattle.image.specs.Image.{Placed, in_table_lem, of_table, count, bucket_of, bucket_bytes, entries_before, has_id, placed_of_id, last_from, back_word, back_words}
+use Rattle.image.proofs.Words.{length_le32}
+use Rattle.image.proofs.Lists.{length_cat, filter_yes, filter_no, filter-append, length_range}
 use Rattle.image.proofs.Sizes.{of_table-append, filled_more, length-bucket_bytes}
 use Rattle.image.proofs.Stores.{sets_part, sets_run}
 use Rattle.image.proofs.Parts.{buckets_of, length_tables_of_to}
@@ -54,13 +54,13 @@ module _ (rs : List Placed) (p : Placed) where
   unfolding of_table filter
   of_table_own =
       of_table-append (own_table p) rs (p ∷ [])
-      ∙ ap (λ (l : List Placed). of_table (own_table p) rs ++ l) (filter-yes (in_table (own_table p)) p [] (eq-eqb (own_table p) (own_table p) refl))
+      ∙ ap (λ (l : List Placed). of_table (own_table p) rs ++ l) (filter_yes (in_table_lem (own_table p)) p [] (eq-eqb (own_table p) (own_table p) refl))
 
   pub of_table_other : (t : ℕ) → (t ≡ own_table p → ⊥) → of_table t (rs ++ p ∷ []) ≡ of_table t rs
   unfolding of_table filter
   of_table_other t h =
       of_table-append t rs (p ∷ [])
-      ∙ ap (λ (l : List Placed). of_table t rs ++ l) (filter-no (in_table t) p [] (ne_eqb (own_table p) t (λ z. h (sym z))))
+      ∙ ap (λ (l : List Placed). of_table t rs ++ l) (filter_no (in_table_lem t) p [] (ne_eqb (own_table p) t (λ z. h (sym z))))
       ∙ append-nil (of_table t rs)
 
 module _ (ps rs : List Placed) (p : Placed) where
@@ -108,7 +108,7 @@ module _ (ps rs : List Placed) (p : Placed) where
       inside =
           let b = place_below h in
           let T = table_with ps rs (own_table p) in
-          omega (arith, length-bucket_bytes (bucket_of p), length-cat bucket_bytes 8 length-bucket_bytes T, length_table_with ps rs (own_table p))
+          omega (arith, length-bucket_bytes (bucket_of p), length_cat bucket_bytes 8 length-bucket_bytes T, length_table_with ps rs (own_table p))
 
 -- ---- the back array
 
@@ -130,20 +130,20 @@ module _ (rs : List Placed) (p : Placed) where
   unfolding back_word placed_of_id filter
   back_word_other i h =
       let no : has_id i p.entry ≡ false = ne_eqb p.entry.id i (λ z. h (sym z)) in
-      sym (ap (last_from 0) (id_more i [] (filter-no (λ (q : Placed). has_id i q.entry) p [] no) ∙ append-nil (placed_of_id i rs)))
+      sym (ap (last_from 0) (id_more i [] (filter_no (λ (q : Placed). has_id i q.entry) p [] no) ∙ append-nil (placed_of_id i rs)))
 
   back_word_own : back_word (rs ++ p ∷ []) p.entry.id ≡ p.at
   unfolding back_word placed_of_id filter
   back_word_own =
       let i = p.entry.id in
-      ap (last_from 0) (id_more i (p ∷ []) (filter-yes (λ (q : Placed). has_id i q.entry) p [] (eq-eqb i i refl))) ∙ last_more 0 (placed_of_id i rs) p
+      ap (last_from 0) (id_more i (p ∷ []) (filter_yes (λ (q : Placed). has_id i q.entry) p [] (eq-eqb i i refl))) ∙ last_more 0 (placed_of_id i rs) p
 
   pub back_words_more : (n : ℕ) → p.entry.id < n → sets (back_words rs n) (4 * p.entry.id) (le32 p.at) ≡ back_words (rs ++ p ∷ []) n
   unfolding back_words
   back_words_more n h =
       let i = p.entry.id in
       sets_run (λ (j : ℕ). le32 (back_word rs j)) (λ (j : ℕ). le32 (back_word (rs ++ p ∷ []) j)) (le32 p.at) n i 0 (4 * i) h
-      (omega (arith, length-cat (λ (j : ℕ). le32 (back_word rs j)) 4 (λ j. length-le32 (back_word rs j)) (range 0 i), length-range 0 i))
-      (omega (arith, length-le32 p.at, length-le32 (back_word rs i)))
+      (omega (arith, length_cat (λ (j : ℕ). le32 (back_word rs j)) 4 (λ j. length_le32 (back_word rs j)) (range 0 i), length_range 0 i))
+      (omega (arith, length_le32 p.at, length_le32 (back_word rs i)))
       (over (back_word rs i) p.at ∙ ap le32 (sym back_word_own))
       (λ j k. ap le32 (back_word_other j k))

@@ -6,28 +6,28 @@ use Rattle.jhash.specs.NameHash.{hash_of}
 use Rattle.jhash.proofs.Outcomes.{hash_of_below}
 use Rattle.image.specs.Bytes.{word, le32, cat, range}
 use Rattle.image.specs.Tables.{Bucket, empty, table_of, start, probe_sequence, first_empty, at_of, Filled as TableIs}
-use Rattle.image.specs.Image.{Entry, Placed, head_size, entry_bytes, entry_size, entries_size, placed, in_table, of_table, count, bucket_of, bucket_bytes}
+use Rattle.image.specs.Image.{Entry, Placed, head_size, entry_bytes, entry_size, entries_size, placed, in_table_lem, of_table, count, bucket_of, bucket_bytes}
 use Rattle.image.specs.Image.{entries_before, table_offset, back_size, back_words, back_size_of, back_offset, entries_end, image_size}
 use Rattle.image.specs.declared.Mode.{Mode}
 use Rattle.image.specs.declared.Mode.TheVariants.{Twoway, Oneway}
-use Rattle.image.proofs.Words.{length-le32}
-use Rattle.image.proofs.Lists.{cat-cons}
-use Rattle.image.proofs.Sizes.{length_entries, length-entry_bytes, entries_size-append, length-placed, placed-append}
-use Rattle.image.proofs.Sizes.{count-append, count-cons, length-bucket_bytes, length-back_words}
-use Rattle.image.proofs.Stores.{sets-left, sets_right_at}
-use Rattle.image.proofs.AllOfList.{All, all_map, all_middle, all_filter, all-image}
-use Rattle.image.proofs.Buckets.{filled-all, first_empty_ext}
+use Rattle.image.proofs.Words.{length_le32}
+use Rattle.image.proofs.Lists.{cat_cons}
+use Rattle.image.proofs.Sizes.{length_entries, length-entry_bytes, entries_size-append, length_placed, placed_append}
+use Rattle.image.proofs.Sizes.{count_append, count_cons, length-bucket_bytes, length-back_words}
+use Rattle.image.proofs.Stores.{sets_left, sets_right_at}
+use Rattle.image.proofs.AllOfList.{All, all_map, all_middle, all_filter, all_image}
+use Rattle.image.proofs.Buckets.{filled_all, first_empty_ext}
 use Rattle.image.proofs.At.{At, at_equal, at_left, at_take, at_fits}
 use Rattle.image.proofs.Bools.{and_both}
-use Rattle.image.proofs.Parts.{placed_in, before_most, offset_word, number_word, bucket-of}
-use Rattle.image.proofs.EntryAt.{id_word, length-word, name_bytes, ids_below}
+use Rattle.image.proofs.Parts.{placed_in, before_most, offset_word, number_word, bucket_of_lem}
+use Rattle.image.proofs.EntryAt.{id_word, length_word, name_bytes, ids_below}
 use Rattle.image.specs.Stored.{between}
 use Rattle.image.specs.Steps.EntryLength.{whole_length}
 use Rattle.image.specs.Steps.Contracts.{offset_at}
 use Rattle.lookup_laws.proofs.SlotSearch.{none_equal}
 use Rattle.serialize.specs.Steps.Meeting.{same_names, bucket_at, Unmet, RowUnmet}
 use Rattle.serialize.specs.Steps.Insertion.{holds_table, inserted, inserted_by_row, entry_hash, back_stored, entry_inserted}
-use Rattle.image.proofs.Between.{is-whole}
+use Rattle.image.proofs.Between.{is_whole}
 use Rattle.serialize.proofs.PartialImage.{table_with, tables_with, length_table_with, length_tables_with, up_to_entries, length_up_to_entries, partial}
 use Rattle.serialize.proofs.PartialImage.{rows_there, tables_there, entries_from}
 use Rattle.serialize.proofs.EntryAdded.{place, place_below, tables_more, back_words_more, Words, bucket_read}
@@ -39,13 +39,13 @@ module _ (e : Entry) (rest : List ℕ) (short : length e.name + 1 < 2 ^ 32) wher
   front = record { post = rest; stands = refl }
 
   front_length : word (entry_bytes e ++ rest) 4 ≡ length e.name + 1
-  front_length = length-word e front short
+  front_length = length_word e front short
 
   front_end : get_or (entry_bytes e ++ rest) (7 + (length e.name + 1)) 0 ≡ 0
   unfolding entry_bytes
   front_end =
       let before = le32 e.id ++ le32 (length e.name + 1) ++ e.name in
-      let n : length before ≡ 7 + (length e.name + 1) = simp (length-append, length-le32) (omega arith) in
+      let n : length before ≡ 7 + (length e.name + 1) = simp (length-append, length_le32) (omega arith) in
       ap (λ (l : List ℕ). get_or l (7 + (length e.name + 1)) 0) (append_assoc before (0 ∷ []) rest)
       ∙ get_or_at before 0 rest 0 (7 + (length e.name + 1)) n
 
@@ -56,19 +56,19 @@ module _ (e : Entry) (rest : List ℕ) (short : length e.name + 1 < 2 ^ 32) wher
       let size : length l ≡ length e.name + 9 + length rest =
       length-append (entry_bytes e) rest ∙ ap (λ (k : ℕ). k + length rest) (length-entry_bytes e) in
       sym
-      (is-whole l (omega arith) (omega arith) (omega arith) (ap (λ (k : ℕ). get_or l (7 + k) 0) n ∙ front_end))
+      (is_whole l (omega arith) (omega arith) (omega arith) (ap (λ (k : ℕ). get_or l (7 + k) 0) n ∙ front_end))
       ∙ n
 
 -- entries in any bytes where they stand: the first of them as it is read
 module _ {img : List ℕ} (at : ℕ) (e : Entry) (rest : List Entry) (there : At img at (cat entry_bytes (e ∷ rest))) where
   pub entry_there : At img at (entry_bytes e)
-  entry_there = at_left (entry_bytes e) (cat entry_bytes rest) (at_equal (cat-cons entry_bytes e rest) there)
+  entry_there = at_left (entry_bytes e) (cat entry_bytes rest) (at_equal (cat_cons entry_bytes e rest) there)
 
   pub length_there : (end : ℕ) → end ≡ at + length (cat entry_bytes (e ∷ rest)) → length e.name + 1 < 2 ^ 32
       → whole_length (between img at end) ≡ length e.name + 1
   length_there end h short =
       let n : end - at ≡ length (cat entry_bytes (e ∷ rest)) = omega arith in
-      ap whole_length (ap (λ (k : ℕ). take k (drop at img)) n ∙ at_take there ∙ cat-cons entry_bytes e rest)
+      ap whole_length (ap (λ (k : ℕ). take k (drop at img)) n ∙ at_take there ∙ cat_cons entry_bytes e rest)
       ∙ front_whole e (cat entry_bytes rest) short
 
   pub name_there : take (length e.name + 1 - 1) (drop (at + 8) img) ≡ e.name
@@ -82,7 +82,7 @@ pub store_in : (a b c vs : List ℕ) (i j : ℕ) → i ≡ length a + j → j + 
 store_in a b c vs i j e h =
     ap (λ (l : List ℕ). sets l i vs) (append_assoc a b c)
     ∙ sets_right_at vs a (b ++ c) j i e
-    ∙ ap (λ (l : List ℕ). a ++ l) (sets-left vs b c j h)
+    ∙ ap (λ (l : List ℕ). a ++ l) (sets_left vs b c j h)
     ∙ sym (append_assoc a (sets b j vs) c)
 
 -- the offset of an entry in the back array, behind what stands before it
@@ -97,7 +97,7 @@ linked Twoway es rs p front tail n h =
     ap (λ (b : Bool). sets (front ++ back_words rs size ++ tail) (cond b 0 (entries_end es + 16 * length es) + 4 * i) (le32 p.at))
     (ne_eqb size 0 (λ z. omega arith))
     ∙ store_in front (back_words rs size) tail (le32 p.at) (entries_end es + 16 * length es + 4 * i) (4 * i) (omega arith)
-    (omega (arith, length-back_words rs size, length-le32 p.at))
+    (omega (arith, length-back_words rs size, length_le32 p.at))
     ∙ ap (λ (l : List ℕ). front ++ l ++ tail) (back_words_more rs p size h)
 linked Oneway es rs p front tail n h = refl
 
@@ -109,7 +109,7 @@ next_of qs e = record { entry = e; at = head_size + entries_size qs }
 
 pub placed_more : (qs : List Entry) (e : Entry) → placed_in (qs ++ e ∷ []) ≡ placed_in qs ++ next_of qs e ∷ []
 unfolding placed
-placed_more qs e = placed-append head_size qs (e ∷ [])
+placed_more qs e = placed_append head_size qs (e ∷ [])
 
 -- where the entry after it begins
 pub next_at : (qs : List Entry) (e : Entry) → head_size + entries_size qs + (8 + (length e.name + 1)) ≡ head_size + entries_size (qs ++ e ∷ [])
@@ -171,10 +171,10 @@ module _ (mode : Mode) (es qs rest : List Entry) (e : Entry) (tail : List ℕ) (
       let q = placed (head_size + entries_size qs + entry_size e) rest in
       let c : count u (placed_in es) ≡ count u (placed_in qs) + count u (next_of qs e ∷ q) =
       ap (λ (l : List Entry). count u (placed_in l)) split
-      ∙ ap (count u) (placed-append head_size qs (e ∷ rest))
-      ∙ count-append u (placed_in qs) (next_of qs e ∷ q) in
+      ∙ ap (count u) (placed_append head_size qs (e ∷ rest))
+      ∙ count_append u (placed_in qs) (next_of qs e ∷ q) in
       let d : count u (next_of qs e ∷ q) ≡ 1 + count u q =
-      count-cons u (next_of qs e) q ∙ ap (λ (b : Bool). cond b 1 0 + count u q) (eq-eqb u u refl) in
+      count_cons u (next_of qs e) q ∙ ap (λ (b : Bool). cond b 1 0 + count u q) (eq-eqb u u refl) in
       omega arith
 
   some_there : 0 < count u ps
@@ -207,7 +207,7 @@ module _ (mode : Mode) (es qs rest : List Entry) (e : Entry) (tail : List ℕ) (
 
   tables_fit : entries_end es + 16 * length ps ≤ 4294967295
   unfolding ps
-  tables_fit = omega (arith, length-placed head_size es)
+  tables_fit = omega (arith, length_placed head_size es)
 
   table_there : word B (24 + 8 * u) ≡ entries_end es + 16 * entries_before u ps
   unfolding B ps table_offset
@@ -223,15 +223,15 @@ module _ (mode : Mode) (es qs rest : List Entry) (e : Entry) (tail : List ℕ) (
   words_small : (k : ℕ) → Words (get_or (table_with ps rs u) k empty)
   unfolding table_with rs of_table
   words_small k =
-      filled-all Words (2 * count u ps) (map bucket_of (of_table u rs)) (omega arith, omega arith)
-      (all-image Words bucket_of (λ q h. (hash_of_below q.entry.name, omega (arith, sizes))) (of_table u rs)
-      (all_filter (λ (q : Placed). q.at ≤ entries_end es) (in_table u) rs (offsets head_size (entries_end es) qs (omega (arith, sizes))))) k
+      filled_all Words (2 * count u ps) (map bucket_of (of_table u rs)) (omega arith, omega arith)
+      (all_image Words bucket_of (λ q h. (hash_of_below q.entry.name, omega (arith, sizes))) (of_table u rs)
+      (all_filter (λ (q : Placed). q.at ≤ entries_end es) (in_table_lem u) rs (offsets head_size (entries_end es) qs (omega (arith, sizes))))) k
 
   bucket_there : (k : ℕ) → k < 2 * count u ps → bucket_at B (entries_end es + 16 * entries_before u ps) k ≡ get_or (table_with ps rs u) k empty
   unfolding B ps rs tables_with
   bucket_there k h =
       bucket_read (entries_end es + 16 * entries_before u ps) k (get_or (table_with ps rs u) k empty)
-      (bucket-of (placed_in es) (table_with ps rs) (length_table_with ps rs) (entries_end es) (tables_there mode es qs tail) u k u_below h) (words_small k)
+      (bucket_of_lem (placed_in es) (table_with ps rs) (length_table_with ps rs) (entries_end es) (tables_there mode es qs tail) u k u_below h) (words_small k)
 
   slot_there : first_empty (offset_at B (entries_end es + 16 * entries_before u ps))
       (probe_sequence (2 * count u ps) (2 * count u ps) (start (hash_of e.name) (2 * count u ps)))
@@ -244,9 +244,9 @@ module _ (mode : Mode) (es qs rest : List Entry) (e : Entry) (tail : List ℕ) (
       let seen : (k : ℕ) → k < n → offset_at B o k ≡ at_of (table_with ps rs u) k = λ k l. ap (λ (b : Bucket). b.at) (bucket_there k l) in
       first_empty_ext (offset_at B o) (at_of (table_with ps rs u)) n seen n (start h n) (mod-lt (h / 256) (let s = some_there in omega arith))
 
-  holds-table : holds_table B (entries_end es + 16 * entries_before u ps) (2 * count u ps) ≡ true
+  holds_table_lem : holds_table B (entries_end es + 16 * entries_before u ps) (2 * count u ps) ≡ true
   unfolding B ps
-  holds-table =
+  holds_table_lem =
       let o = entries_end es + 16 * entries_before u (placed_in es) in
       let n = 2 * count u (placed_in es) in
       let T = tables_with (placed_in es) (placed_in qs) in
@@ -288,8 +288,8 @@ module _ (mode : Mode) (es qs rest : List Entry) (e : Entry) (tail : List ℕ) (
       let size = length-map (of_table u rs) bucket_of in
       subst (λ (f : List ℕ). All (λ (x : Bucket). x.hash ≡ h → same_names f at x.at ≡ false) (map bucket_of (of_table u rs))) front_there
       (none_equal table_held (omega arith) h v (omega arith)
-      (all-image (λ (b : Bucket). b.at ≡ 0 → ⊥) bucket_of (λ q l z. omega arith) (of_table u rs)
-      (all_filter (λ (q : Placed). head_size ≤ q.at) (in_table u) rs (above head_size qs)))
+      (all_image (λ (b : Bucket). b.at ≡ 0 → ⊥) bucket_of (λ q l z. omega arith) (of_table u rs)
+      (all_filter (λ (q : Placed). head_size ≤ q.at) (in_table_lem u) rs (above head_size qs)))
       there)
 
   -- ---- the buffer with its pair, and with its offset in the back array
@@ -305,7 +305,7 @@ module _ (mode : Mode) (es qs rest : List Entry) (e : Entry) (tail : List ℕ) (
       let o = entries_end es + 16 * entries_before u ps in
       let n = 2 * count u ps in
       ap₂ (λ (x : ℕ) (y : ℕ). cond (holds_table B x y) (inserted B x y h at) B) table_there number_there
-      ∙ ap (λ (b : Bool). cond b (inserted B o n h at) B) holds-table
+      ∙ ap (λ (b : Bool). cond b (inserted B o n h at) B) holds_table_lem
       ∙ ap (λ (k : ℕ). sets B (o + 8 * k) (le32 h ++ le32 at)) slot_there
       ∙ bucket_stored
     where
@@ -333,7 +333,7 @@ module _ (mode : Mode) (es qs rest : List Entry) (e : Entry) (tail : List ℕ) (
       let F = U ++ tables_with ps (rs ++ p ∷ []) in
       let n : length F ≡ entries_end es + 16 * length es =
       let T = tables_with ps (rs ++ p ∷ []) in
-      omega (arith, length-append U T, length_up_to_entries mode es, length_tables_with ps (rs ++ p ∷ []), length-placed head_size es) in
+      omega (arith, length-append U T, length_up_to_entries mode es, length_tables_with ps (rs ++ p ∷ []), length_placed head_size es) in
       ap (λ (name : List ℕ). back_stored mode (inserted_by_row B (hash_of name) at) (back_offset mode es) (word B at) at) name_found
       ∙ ap (λ (l : List ℕ). back_stored mode l (back_offset mode es) (word B at) at) with_pair
       ∙ ap (λ (i : ℕ). back_stored mode (F ++ L ++ tail) (back_offset mode es) i at) (id_word e here id_small)

@@ -6,9 +6,9 @@ use Rattle.image.proofs.Bools.{false_not_true}
 use Rattle.serialize.specs.Steps.Meeting.{Pairwise}
 use Rattle.serialize.proofs.Choices.{cond_holds}
 
-pub all-before : {A : Type 0} (P : A → Type 0) (xs ys : List A) → All P (xs ++ ys) → All P xs
-all-before P [] ys all = tt
-all-before P (x ∷ xs) ys all = (all.0, all-before P xs ys all.1)
+pub all_before : {A : Type 0} (P : A → Type 0) (xs ys : List A) → All P (xs ++ ys) → All P xs
+all_before P [] ys all = tt
+all_before P (x ∷ xs) ys all = (all.0, all_before P xs ys all.1)
 
 -- one more at the end
 pub pairwise_more : {A : Type 0} (R : A → A → Type 0) (xs : List A) (y : A) → Pairwise R xs → All (λ (x : A). R x y) xs → Pairwise R (xs ++ y ∷ [])

@@ -7,8 +7,8 @@ use Rattle.image.specs.Tables.{Bucket, empty, filled, insert_all}
 use Rattle.image.specs.Image.{Entry, Placed, head_size, entry_bytes, entries_size, of_table, count, bucket_of, bucket_bytes, table, table_bytes, tables}
 use Rattle.image.specs.Image.{table_rows, placed_of_id, last_from, back_word, back_words, back_size_of, entries_end, head_words, image}
 use Rattle.image.specs.declared.Mode.{Mode}
-use Rattle.image.proofs.Lists.{cat-append}
-use Rattle.image.proofs.Sizes.{length_entries, length-filled, length-head_words, length-table_rows, length-back_words}
+use Rattle.image.proofs.Lists.{cat_append}
+use Rattle.image.proofs.Sizes.{length_entries, length_filled, length-head_words, length-table_rows, length-back_words}
 use Rattle.image.proofs.At.{At, at_same, at_equal, at_right}
 use Rattle.image.proofs.Parts.{placed_in, five_2, five_3, five_4, buckets_of, length_tables_of}
 
@@ -21,7 +21,7 @@ tables_with ps rs = cat (buckets_of (table_with ps rs)) (range 0 256)
 
 pub length_table_with : (ps rs : List Placed) (t : ℕ) → length (table_with ps rs t) ≡ 2 * count t ps
 unfolding table_with
-length_table_with ps rs t = length-filled (2 * count t ps) (map bucket_of (of_table t rs))
+length_table_with ps rs t = length_filled (2 * count t ps) (map bucket_of (of_table t rs))
 
 pub length_tables_with : (ps rs : List Placed) → length (tables_with ps rs) ≡ 16 * length ps
 unfolding tables_with
@@ -89,7 +89,7 @@ pub entries_after : {img : List ℕ} (es rest done : List Entry) → At img head
     → At img (head_size + entries_size done) (cat entry_bytes rest)
 entries_after es rest done there e =
     at_same (ap (λ (n : ℕ). head_size + n) (length_entries done))
-    (at_right (cat entry_bytes done) (cat entry_bytes rest) (at_equal (ap (cat entry_bytes) e ∙ cat-append entry_bytes done rest) there))
+    (at_right (cat entry_bytes done) (cat entry_bytes rest) (at_equal (ap (cat entry_bytes) e ∙ cat_append entry_bytes done rest) there))
 
 pub entries_from : (mode : Mode) (es qs rest done : List Entry) (tail : List ℕ) → es ≡ done ++ rest
     → At (partial mode es qs ++ tail) (head_size + entries_size done) (cat entry_bytes rest)

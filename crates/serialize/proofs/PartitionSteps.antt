@@ -6,7 +6,7 @@ use borrow.Author.Tests.{lt-leb}
 use Rattle.image.specs.Bytes.{word, le32, cat}
 use Rattle.image.specs.Tables.{filled}
 use Rattle.image.specs.Image.{bucket_bytes}
-use Rattle.image.proofs.Between.{take-sets}
+use Rattle.image.proofs.Between.{take_sets}
 use Rattle.image.specs.declared.Mode.{Mode}
 use Rattle.image.specs.Stored.{between}
 use Rattle.image.specs.Steps.EntryLength.{whole_length}
@@ -18,16 +18,16 @@ use Rattle.serialize.proofs.Choices.{cond_holds}
 
 -- ---- a pair
 
-pub pair_put : (buf : List ℕ) (p h at : ℕ) {buf' : List ℕ} → p + 8 ≤ length buf → buf' ≡ sets buf p (le32 h ++ le32 at) → buf' ≡ pair_put buf p h at
-pair_put buf p h at l e = rw (le-leb (p + 8) (length buf) l) e
+pub pair_put_lem : (buf : List ℕ) (p h at : ℕ) {buf' : List ℕ} → p + 8 ≤ length buf → buf' ≡ sets buf p (le32 h ++ le32 at) → buf' ≡ pair_put buf p h at
+pair_put_lem buf p h at l e = rw (le-leb (p + 8) (length buf) l) e
 
 pub pair_left : (buf : List ℕ) (p h at : ℕ) → length buf < p + 8 → buf ≡ pair_put buf p h at
 pair_left buf p h at l = rw (lt-leb (p + 8) (length buf) l)
 
-pub pair-appended : (places buf : List ℕ) (h at q : ℕ) {buf' : List ℕ} → buf' ≡ pair_put buf (get_or places (h % 256) 0) h at
+pub pair_appended : (places buf : List ℕ) (h at q : ℕ) {buf' : List ℕ} → buf' ≡ pair_put buf (get_or places (h % 256) 0) h at
     → q ≡ (get_or places (h % 256) 0 + 8) % 4294967296 → PairAppended places buf h at (set places (h % 256) q) buf'
 unfolding advanced
-pair-appended places buf h at q e f = record { stored = e; moved = ap (set places (h % 256)) f }
+pair_appended places buf h at q e f = record { stored = e; moved = ap (set places (h % 256)) f }
 
 -- ---- where the tables begin
 
@@ -49,53 +49,53 @@ table_offsets_end counts p x o t i e = e
 
 -- ---- entries
 
-pub entry_partitioned : (mode : Mode) (back-offset at id h : ℕ) (places buf : List ℕ) {places' b1 b2 : List ℕ} → PairAppended places buf h at places' b1
-    → b2 ≡ back_stored mode b1 back-offset id at → EntryPartitioned mode back-offset at id h places buf places' b2
+pub entry_partitioned : (mode : Mode) (back_offset_lem at id h : ℕ) (places buf : List ℕ) {places' b1 b2 : List ℕ} → PairAppended places buf h at places' b1
+    → b2 ≡ back_stored mode b1 back_offset_lem id at → EntryPartitioned mode back_offset_lem at id h places buf places' b2
 unfolding partitioned
-entry_partitioned mode back-offset at id h places buf p q =
-    record { stored = q ∙ ap (λ (l : List ℕ). back_stored mode l back-offset id at) p.stored; moved = p.moved }
+entry_partitioned mode back_offset_lem at id h places buf p q =
+    record { stored = q ∙ ap (λ (l : List ℕ). back_stored mode l back_offset_lem id at) p.stored; moved = p.moved }
 
 -- the entries from the one at `at` on, partitioned in this buffer, leave what all entries leave
-pub record Partitioning (mode : Mode) (back-offset end entries : ℕ) (places₀ buf₀ places buf : List ℕ) (at left : ℕ) : Type 0 where
+pub record Partitioning (mode : Mode) (back_offset_lem end entries : ℕ) (places₀ buf₀ places buf : List ℕ) (at left : ℕ) : Type 0 where
   pub inside : at ≤ end
   pub long : length buf ≡ length buf₀
-  pub leaves : partitioned_from mode back-offset end left at places buf ≡ partitioned_from mode back-offset end entries 2072 places₀ buf₀
+  pub leaves : partitioned_from mode back_offset_lem end left at places buf ≡ partitioned_from mode back_offset_lem end entries 2072 places₀ buf₀
 
-module _ {mode : Mode} {back-offset end entries : ℕ} {places₀ buf₀ places buf : List ℕ} {at left : ℕ}
-    (inv : Partitioning mode back-offset end entries places₀ buf₀ places buf at left) where
+module _ {mode : Mode} {back_offset_lem end entries : ℕ} {places₀ buf₀ places buf : List ℕ} {at left : ℕ}
+    (inv : Partitioning mode back_offset_lem end entries places₀ buf₀ places buf at left) where
   abbrev from : ℕ → List ℕ
   from n =
       let h = entry_hash buf at n in
-      partitioned_from mode back-offset end (left - 1) (at + (8 + n)) (advanced places h) (partitioned mode back-offset places buf at (word buf at) h)
+      partitioned_from mode back_offset_lem end (left - 1) (at + (8 + n)) (advanced places h) (partitioned mode back_offset_lem places buf at (word buf at) h)
 
   module _ {n : ℕ} (more : 0 < left) (is : n ≡ whole_length (between buf at end)) where
-    next : cond (eqb n 0) buf (from n) ≡ partitioned_from mode back-offset end entries 2072 places₀ buf₀
+    next : cond (eqb n 0) buf (from n) ≡ partitioned_from mode back_offset_lem end entries 2072 places₀ buf₀
     unfolding partitioned_from
     next =
         let m : suc (left - 1) ≡ left = omega arith in
-        ap (λ (k : ℕ). cond (eqb k 0) buf (from k)) is ∙ ap (λ (k : ℕ). partitioned_from mode back-offset end k at places buf) m ∙ inv.leaves
+        ap (λ (k : ℕ). cond (eqb k 0) buf (from k)) is ∙ ap (λ (k : ℕ). partitioned_from mode back_offset_lem end k at places buf) m ∙ inv.leaves
 
-    pub partitioned-broken : n ≡ 0 → buf ≡ partitioned_from mode back-offset end entries 2072 places₀ buf₀
-    partitioned-broken z = sym (ap (λ (b : Bool). cond b buf (from n)) (eq-eqb n 0 z)) ∙ next
+    pub partitioned_broken : n ≡ 0 → buf ≡ partitioned_from mode back_offset_lem end entries 2072 places₀ buf₀
+    partitioned_broken z = sym (ap (λ (b : Bool). cond b buf (from n)) (eq-eqb n 0 z)) ∙ next
 
-    pub partitioned-step : (n ≡ 0 → ⊥) → at + (8 + n) ≤ end → (places' buf' : List ℕ) → length buf' ≡ length buf → {id h : ℕ} → id ≡ word buf at
-        → h ≡ entry_hash buf at n → EntryPartitioned mode back-offset at id h places buf places' buf'
-        → Partitioning mode back-offset end entries places₀ buf₀ places' buf' (at + (8 + n)) (left - 1)
-    partitioned-step some before places' buf' same {id} {h} ei eh done = record {
+    pub partitioned_step : (n ≡ 0 → ⊥) → at + (8 + n) ≤ end → (places' buf' : List ℕ) → length buf' ≡ length buf → {id h : ℕ} → id ≡ word buf at
+        → h ≡ entry_hash buf at n → EntryPartitioned mode back_offset_lem at id h places buf places' buf'
+        → Partitioning mode back_offset_lem end entries places₀ buf₀ places' buf' (at + (8 + n)) (left - 1)
+    partitioned_step some before places' buf' same {id} {h} ei eh done = record {
       inside = before;
       long = same ∙ inv.long;
       leaves =
-          ap₂ (λ (q l : List ℕ). partitioned_from mode back-offset end (left - 1) (at + (8 + n)) q l) done.moved done.stored
-          ∙ ap₂ (λ (i k : ℕ). partitioned_from mode back-offset end (left - 1) (at + (8 + n)) (advanced places k)
-          (partitioned mode back-offset places buf at i k))
+          ap₂ (λ (q l : List ℕ). partitioned_from mode back_offset_lem end (left - 1) (at + (8 + n)) q l) done.moved done.stored
+          ∙ ap₂ (λ (i k : ℕ). partitioned_from mode back_offset_lem end (left - 1) (at + (8 + n)) (advanced places k)
+          (partitioned mode back_offset_lem places buf at i k))
           ei eh
           ∙ sym (ap (λ (b : Bool). cond b buf (from n)) (ne_eqb n 0 some))
           ∙ next;
     }
 
-  pub partitioned-all : left ≡ 0 → buf ≡ partitioned_from mode back-offset end entries 2072 places₀ buf₀
+  pub partitioned_all : left ≡ 0 → buf ≡ partitioned_from mode back_offset_lem end entries 2072 places₀ buf₀
   unfolding partitioned_from
-  partitioned-all z = ap (λ (k : ℕ). partitioned_from mode back-offset end k at places buf) (sym z) ∙ inv.leaves
+  partitioned_all z = ap (λ (k : ℕ). partitioned_from mode back_offset_lem end k at places buf) (sym z) ∙ inv.leaves
 
 -- ---- tables
 
@@ -115,7 +115,7 @@ pub front_kept : (buf : List ℕ) (end o c : ℕ) → end ≤ o → take end (ta
 unfolding table_filled
 front_kept buf end o c behind =
     cond_holds (λ (l : List ℕ). take end l ≡ take end buf) (leb (o + 16 * c) (length buf))
-    (take-sets (cat bucket_bytes (filled (2 * c) (pairs_stored buf o c))) buf end o behind) refl
+    (take_sets (cat bucket_bytes (filled (2 * c) (pairs_stored buf o c))) buf end o behind) refl
 
 -- one table more is apart
 pub apart_next : (front counts buf : List ℕ) (o t n c : ℕ) {buf' : List ℕ} {X : Type 0} → t < n → c ≡ get_or counts t 0 → buf' ≡ table_filled buf o c

@@ -12,8 +12,8 @@ use Rattle.image.specs.Image.{entries_before, back_words, back_size_of, back_off
 use Rattle.image.specs.Stored.{between}
 use Rattle.image.specs.Steps.EntryLength.{whole_length}
 use Rattle.image.specs.declared.Mode.{Mode}
-use Rattle.image.proofs.Sizes.{length-placed, placed-append, count_nil, count-append, length-bucket_bytes, length-head_words, length-table_rows, before-suc}
-use Rattle.image.proofs.Stores.{sets-whole}
+use Rattle.image.proofs.Sizes.{length_placed, placed_append, count_nil, count_append, length-bucket_bytes, length-head_words, length-table_rows, before_suc}
+use Rattle.image.proofs.Stores.{sets_whole}
 use Rattle.image.proofs.AllOfList.{All}
 use Rattle.image.proofs.At.{At, at_same, at_right}
 use Rattle.image.proofs.Parts.{placed_in, before_most}
@@ -61,7 +61,7 @@ module _ (counts : List ℕ) (end : ℕ) (ps : List Placed) (tallies : Counts co
   begin_at (suc m) t o (suc i) h e l =
       let z : suc t + i ≡ t + suc i = omega arith in
       let c = tallies t (omega arith) in
-      begin_at m (suc t) (o + 16 * get_or counts t 0) i (omega arith) (omega (arith, before-suc t ps)) (omega arith)
+      begin_at m (suc t) (o + 16 * get_or counts t 0) i (omega arith) (omega (arith, before_suc t ps)) (omega arith)
       ∙ ap (λ (k : ℕ). (end + 16 * entries_before k ps) % 4294967296) z
 
   pub places_begin : Places end ps [] (sets (replicate 256 0) 0 (table_offsets_from counts end 0 256))
@@ -73,7 +73,7 @@ module _ (counts : List ℕ) (end : ℕ) (ps : List Placed) (tallies : Counts co
           let R = table_offsets_from counts end 0 256 in
           let zeros : List ℕ = replicate 256 0 in
           ap (λ (l : List ℕ). sets l 0 R) (sym (append-nil zeros))
-          ∙ sets-whole R zeros [] (length_begin 256 0 end ∙ sym (length-replicate {A = ℕ} 256 0))
+          ∙ sets_whole R zeros [] (length_begin 256 0 end ∙ sym (length-replicate {A = ℕ} 256 0))
           ∙ append-nil R
 
       each : (t : ℕ) → t < 256 → get_or (table_offsets_from counts end 0 256) t 0 ≡ end + 16 * entries_before t ps + 8 * count t []
@@ -99,15 +99,15 @@ module _ (mode : Mode) (F : List ℕ) (es : List Entry) (X tail : List ℕ) (fro
   few qs rest split t =
       let c : count t (placed_in es) ≡ count t (placed_in qs) + count t (placed (head_size + entries_size qs) rest) =
       ap (λ (l : List Entry). count t (placed_in l)) split
-      ∙ ap (count t) (placed-append head_size qs rest)
-      ∙ count-append t (placed_in qs) (placed (head_size + entries_size qs) rest) in
+      ∙ ap (count t) (placed_append head_size qs rest)
+      ∙ count_append t (placed_in qs) (placed (head_size + entries_size qs) rest) in
       omega arith
 
   areas_long : (qs rest : List Entry) → es ≡ qs ++ rest → length (cat (area_with (placed_in es) X (placed_in qs)) (range 0 256)) ≡ 16 * length es
   areas_long qs rest split =
       length_areas (placed_in es) (area_with (placed_in es) X (placed_in qs))
       (λ t h. length_area_with (placed_in es) X long (placed_in qs) t h (few qs rest split t))
-      ∙ ap (λ (n : ℕ). 16 * n) (length-placed head_size es)
+      ∙ ap (λ (n : ℕ). 16 * n) (length_placed head_size es)
 
   module _ (qs rest : List Entry) (e : Entry) (split : es ≡ qs ++ e ∷ rest) (fits : image_size mode es ≤ 4294967295)
       (ids : All (λ (x : Entry). x.id < 2 ^ 32) es) (places : List ℕ) (next : Places (entries_end es) (placed_in es) (placed_in qs) places) where
@@ -145,12 +145,12 @@ module _ (mode : Mode) (F : List ℕ) (es : List Entry) (X tail : List ℕ) (fro
         let sized = areas_long qs (e ∷ rest) split in
         let inside : get_or places v 0 + 8 ≤ length (F ++ R ++ L ++ tail) =
         omega
-        (arith, place_there, length-append (F ++ R ++ L) tail, length-append (F ++ R) L, length-append F R, front, length-placed head_size es) in
+        (arith, place_there, length-append (F ++ R ++ L) tail, length-append (F ++ R) L, length-append F R, front, length_placed head_size es) in
         ap (λ (t : Bool). cond t (sets (F ++ R ++ L ++ tail) (get_or places v 0) b) (F ++ R ++ L ++ tail))
         (le-leb (get_or places v 0 + 8) (length (F ++ R ++ L ++ tail)) inside)
         ∙ ap (λ (l : List ℕ). sets l (get_or places v 0) b) (append_assoc (F ++ R) L tail)
         ∙ store_in F R (L ++ tail) b (get_or places v 0) j (omega (arith, place_there, front))
-        (omega (arith, length-placed head_size es, length-bucket_bytes (bucket_of (next_of qs e))))
+        (omega (arith, length_placed head_size es, length-bucket_bytes (bucket_of (next_of qs e))))
         ∙ ap (λ (l : List ℕ). F ++ l ++ (L ++ tail))
         (areas_more (placed_in es) X long (placed_in qs) (next_of qs e) (λ t h. few qs (e ∷ rest) split t) one below)
         ∙ sym (append_assoc (F ++ cat (area_with (placed_in es) X (placed_in qs ++ next_of qs e ∷ [])) (range 0 256)) L tail)
@@ -187,7 +187,7 @@ module _ (mode : Mode) (F : List ℕ) (es : List Entry) (X tail : List ℕ) (fro
             let x = get_or places w 0 + 8 in
             let below = own_below mode es qs rest e tail split fits ids in
             let one = one_there mode es qs rest e tail split fits ids in
-            let small : x < 4294967296 = omega (arith, place_there, before_most (placed_in es) w below, length-placed head_size es) in
+            let small : x < 4294967296 = omega (arith, place_there, before_most (placed_in es) w below, length_placed head_size es) in
             rw y
             (get_or-set_same places w (x % 4294967296) 0 (omega (arith, next.many))
             ∙ mod-eq_of_lt small

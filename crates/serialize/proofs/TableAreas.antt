@@ -7,8 +7,8 @@ use lib.Seq.{sets, sets-eq}
 use Rattle.image.specs.Bytes.{cat, filter, range}
 use Rattle.image.specs.Tables.{Bucket, empty}
 use Rattle.image.specs.Image.{Placed, of_table, count, bucket_of, bucket_bytes, entries_before}
-use Rattle.image.proofs.Lists.{cat-append, cat_ext, length-cat, range_at, run_more}
-use Rattle.image.proofs.Sizes.{length-bucket_bytes, before-all}
+use Rattle.image.proofs.Lists.{cat_append, cat_ext, length_cat, range_at, run_more}
+use Rattle.image.proofs.Sizes.{length-bucket_bytes, before_all}
 use Rattle.image.proofs.Stores.{sets_right_at, sets_run}
 use Rattle.image.proofs.Parts.{before_most}
 use Rattle.image.proofs.At.{At, at_same, at_equal, at_after, at_part}
@@ -27,7 +27,7 @@ module _ (ps : List Placed) (f : ℕ → List ℕ) (sized : (t : ℕ) → t < 25
       omega (arith, ap length (run_more f t) ∙ sum, length_areas_to t (omega arith), sized t (omega arith))
 
   pub length_areas : length (cat f (range 0 256)) ≡ 16 * length ps
-  length_areas = length_areas_to 256 (omega arith) ∙ ap (λ (n : ℕ). 16 * n) (before-all ps)
+  length_areas = length_areas_to 256 (omega arith) ∙ ap (λ (n : ℕ). 16 * n) (before_all ps)
 
   pub area_at : {img : List ℕ} (o : ℕ) → At img o (cat f (range 0 256)) → (t : ℕ) → t < 256 → At img (o + 16 * entries_before t ps) (f t)
   area_at o a t h =
@@ -57,7 +57,7 @@ areas_to ps X (suc m) =
 
 pub areas_all : (ps : List Placed) (X : List ℕ) → length X ≡ 16 * length ps → cat (table_area ps X) (range 0 256) ≡ X
 areas_all ps X h =
-    areas_to ps X 256 ∙ ap (λ (n : ℕ). take (16 * n) X) (before-all ps) ∙ take_all (16 * length ps) X (omega arith)
+    areas_to ps X 256 ∙ ap (λ (n : ℕ). take (16 * n) X) (before_all ps) ∙ take_all (16 * length ps) X (omega arith)
 
 -- ---- pairs in them
 
@@ -76,7 +76,7 @@ area_with ps X rs t = pairs_of rs t ++ drop (8 * count t rs) (table_area ps X t)
 pub length_pairs_of : (rs : List Placed) (t : ℕ) → length (pairs_of rs t) ≡ 8 * count t rs
 unfolding pairs_of
 length_pairs_of rs t =
-    length-cat bucket_bytes 8 length-bucket_bytes (map bucket_of (of_table t rs)) ∙ ap (λ (n : ℕ). 8 * n) (length-map (of_table t rs) bucket_of)
+    length_cat bucket_bytes 8 length-bucket_bytes (map bucket_of (of_table t rs)) ∙ ap (λ (n : ℕ). 8 * n) (length-map (of_table t rs) bucket_of)
 
 pub areas_none : (ps : List Placed) (X : List ℕ) → length X ≡ 16 * length ps → cat (area_with ps X []) (range 0 256) ≡ X
 unfolding area_with pairs_of of_table filter cat
@@ -122,7 +122,7 @@ module _ (ps : List Placed) (X : List ℕ) (long : length X ≡ 16 * length ps) 
         let pairs : cat bucket_bytes (map bucket_of (of_table t (rs ++ p ∷ []))) ≡ A ++ b =
         ap (λ (l : List Placed). cat bucket_bytes (map bucket_of l)) (of_table_own rs p)
         ∙ ap (cat bucket_bytes) (map-append bucket_of (of_table t rs) (p ∷ []))
-        ∙ cat-append bucket_bytes (map bucket_of (of_table t rs)) (bucket_of p ∷ [])
+        ∙ cat_append bucket_bytes (map bucket_of (of_table t rs)) (bucket_of p ∷ [])
         ∙ ap (λ (l : List ℕ). A ++ l) (cat_one (bucket_of p)) in
         sets_right_at b A D 0 (8 * c) place
         ∙ ap (λ (l : List ℕ). A ++ l) (sets-eq b D 0 (omega (arith, length-drop (8 * c) (table_area ps X t), length_area t below)))

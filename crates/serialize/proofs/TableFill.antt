@@ -9,12 +9,12 @@ use Rattle.image.specs.Bytes.{word, cat}
 use Rattle.image.specs.Tables.{Bucket, empty, start, probe_sequence, first_empty, at_of, insert, insert_all, filled, Filled as TableIs}
 use Rattle.image.specs.Image.{bucket_bytes}
 use Rattle.image.proofs.Bools.{or_false_first, or_false_second}
-use Rattle.image.proofs.Between.{take-sets}
-use Rattle.image.proofs.Lists.{length-cat}
-use Rattle.image.proofs.Sizes.{length-bucket_bytes, length-filled, filled_more}
-use Rattle.image.proofs.Stores.{sets-whole, sets_part}
+use Rattle.image.proofs.Between.{take_sets}
+use Rattle.image.proofs.Lists.{length_cat}
+use Rattle.image.proofs.Sizes.{length-bucket_bytes, length_filled, filled_more}
+use Rattle.image.proofs.Stores.{sets_whole, sets_part}
 use Rattle.image.proofs.AllOfList.{All, all_append}
-use Rattle.image.proofs.Buckets.{filled-all, first_empty_ext}
+use Rattle.image.proofs.Buckets.{filled_all, first_empty_ext}
 use Rattle.image.proofs.At.{At, at_whole, at_same, at_equal, at_left, at_right, at_part}
 use Rattle.image.specs.Steps.Contracts.{offset_at}
 use Rattle.lookup_laws.proofs.SlotSearch.{none_equal}
@@ -26,7 +26,7 @@ use Rattle.serialize.proofs.PartialImage.{zeros_buckets}
 use Rattle.serialize.proofs.EntryAdded.{first_empty_below, Words, bucket_read}
 use Rattle.serialize.proofs.InsertStep.{store_in}
 use Rattle.serialize.proofs.Insertion.{not_met}
-use Rattle.serialize.proofs.Pairwise.{all-before, pairwise_more}
+use Rattle.serialize.proofs.Pairwise.{all_before, pairwise_more}
 
 -- ---- the copy
 
@@ -101,7 +101,7 @@ stored_at l vs o r =
 module _ (buf T-buf : List ℕ) (T : List Bucket) (o n : ℕ) (long : length T ≡ n) (inside : o + 8 * n ≤ length buf) (some : 0 < n)
     (small : (k : ℕ) → Words (get_or T k empty)) (is : T-buf ≡ sets buf o (cat bucket_bytes T)) where
   size : length (cat bucket_bytes T) ≡ 8 * n
-  size = length-cat bucket_bytes 8 length-bucket_bytes T ∙ ap (λ (k : ℕ). 8 * k) long
+  size = length_cat bucket_bytes 8 length-bucket_bytes T ∙ ap (λ (k : ℕ). 8 * k) long
 
   -- the buckets that stand there
   pub buckets_are : (k : ℕ) → k < n → bucket_at T-buf o k ≡ get_or T k empty
@@ -157,14 +157,14 @@ module _ (base : List ℕ) (o c : ℕ) (inside : o + 16 * c ≤ length base) (bu
       ap (λ (l : List ℕ). sets l o vs) e
       ∙ sets_within base zeros vs o 0 o z (omega arith) (omega arith)
       ∙ ap (λ (l : List ℕ). sets base o (sets l 0 vs)) (sym (append-nil zeros))
-      ∙ ap (sets base o) (sets-whole vs zeros [] (h ∙ sym n) ∙ append-nil vs)
+      ∙ ap (sets base o) (sets_whole vs zeros [] (h ∙ sym n) ∙ append-nil vs)
 
   pub fill_start : (pairs : List ℕ) → Filled buf₀ pairs o c 0 buf₀
   unfolding pairs_in filled insert_all zeros
   fill_start pairs =
       let T : List Bucket = replicate (2 * c) empty in
       let n : length (cat bucket_bytes T) ≡ 16 * c =
-      omega (arith, length-cat bucket_bytes 8 length-bucket_bytes T, length-replicate (2 * c) empty) in
+      omega (arith, length_cat bucket_bytes 8 length-bucket_bytes T, length-replicate (2 * c) empty) in
       let none : cat bucket_bytes T ≡ zeros =
       zeros_buckets (2 * c) ∙ ap (λ (k : ℕ). replicate k 0) (n ∙ sym length_zeros ∙ length-replicate (o + 16 * c - o) 0) in
       record {
@@ -179,7 +179,7 @@ module _ (base : List ℕ) (o c : ℕ) (inside : o + 16 * c ≤ length base) (bu
       let k : i ≡ c = omega (arith, f.few) in
       let T = filled (2 * c) (pairs_in pairs c) in
       let n : length (cat bucket_bytes T) ≡ 16 * c =
-      omega (arith, length-cat bucket_bytes 8 length-bucket_bytes T, length-filled (2 * c) (pairs_in pairs c)) in
+      omega (arith, length_cat bucket_bytes 8 length-bucket_bytes T, length_filled (2 * c) (pairs_in pairs c)) in
       f.is ∙ ap (λ (j : ℕ). table_stored buf₀ o c (pairs_in pairs j)) k ∙ over (cat bucket_bytes T) n
 
   pub filling_start : (end : ℕ) (pairs : List ℕ) → Filling buf₀ pairs end o c 0 buf₀ false
@@ -193,7 +193,7 @@ module _ (base : List ℕ) (o c : ℕ) (inside : o + 16 * c ≤ length base) (bu
       let k : i ≡ c = omega (arith, f.table.few) in
       record {
         leaves = λ _. fill_end f.table l;
-        apart = λ z. subst (λ (g : List ℕ). Apart g (pairs_in pairs c)) (ap (take end) e ∙ take-sets zeros base end o behind)
+        apart = λ z. subst (λ (g : List ℕ). Apart g (pairs_in pairs c)) (ap (take end) e ∙ take_sets zeros base end o behind)
             (subst (λ (j : ℕ). Apart (take end buf₀) (pairs_in pairs j)) k (f.apart z));
       }
 
@@ -214,7 +214,7 @@ module _ {buf₀ pairs : List ℕ} {o c i : ℕ} {buf : List ℕ} (f : Filled bu
       ap₂ (λ (v : ℕ) (w : ℕ). P ++ (pair_of v w ∷ [])) eh ea ∙ sym (pairs_suc pairs i) ∙ ap (pairs_in pairs) s
 
   words : (k : ℕ) → Words (get_or T k empty)
-  words = filled-all Words n P (omega arith, omega arith) f.small
+  words = filled_all Words n P (omega arith, omega arith) f.small
 
   module _ {end : ℕ} {buf' : List ℕ} {met : Bool} (done : PairInserted buf end o (2 * c) h at buf' met) where
     pub fill_step : length buf' ≡ length buf → Filled buf₀ pairs o c (i + 1) buf'
@@ -224,7 +224,7 @@ module _ {buf₀ pairs : List ℕ} {o c i : ℕ} {buf : List ℕ} (f : Filled bu
           few = omega arith;
           long = sized ∙ f.long;
           is =
-              area_step buf₀ buf T o n (length-filled n P) (omega arith) (omega arith) words f.is h at buf' done.stored
+              area_step buf₀ buf T o n (length_filled n P) (omega arith) (omega arith) words f.is h at buf' done.stored
               ∙ ap (λ (r : List Bucket). sets buf₀ o (cat bucket_bytes r)) (sym (filled_more n P b) ∙ ap (filled n) more);
           small = rw (← more) (all_append Words P (b ∷ []) f.small ((done.hash_word, done.offset_word), tt));
         }
@@ -233,10 +233,10 @@ module _ {buf₀ pairs : List ℕ} {o c i : ℕ} {buf : List ℕ} (f : Filled bu
     pub apart_step : end ≤ o → met ≡ false → Apart (take end buf₀) P → Apart (take end buf₀) (pairs_in pairs (i + 1))
     apart_step behind z apart full =
         let b = pair_of h at in
-        let front : take end buf ≡ take end buf₀ = ap (take end) f.is ∙ take-sets (cat bucket_bytes T) buf₀ end o behind in
-        let fulls : All (λ (q : Bucket). q.at ≡ 0 → ⊥) P = all-before (λ (q : Bucket). q.at ≡ 0 → ⊥) P (b ∷ []) (rw (← more) at full) in
+        let front : take end buf ≡ take end buf₀ = ap (take end) f.is ∙ take_sets (cat bucket_bytes T) buf₀ end o behind in
+        let fulls : All (λ (q : Bucket). q.at ≡ 0 → ⊥) P = all_before (λ (q : Bucket). q.at ≡ 0 → ⊥) P (b ∷ []) (rw (← more) at full) in
         let table : TableIs n (bucket_at buf o) P =
-        record { each = buckets_are buf₀ buf T o n (length-filled n P) (omega arith) (omega arith) words f.is } in
+        record { each = buckets_are buf₀ buf T o n (length_filled n P) (omega arith) (omega arith) words f.is } in
         let other : All (λ (x : Bucket). x.hash ≡ h → same_names (take end buf) at x.at ≡ false) P =
         none_equal table (omega arith) h (same_names (take end buf) at) (omega (arith, length_pairs pairs i)) fulls (done.unmet z) in
         subst (λ (bs : List Bucket). Pairwise (OtherNames (take end buf₀)) bs) more
@@ -262,14 +262,14 @@ module _ {stop : Bool} (buf : List ℕ) (end o c : ℕ) where
       rw z (record { leaves = λ _. cond_holds (λ (l : List ℕ). buf ≡ l) (leb (o + 16 * 0) (length buf)) refl refl; apart = λ e full. tt })
 
   -- not in the buffer
-  pub table-left : length buf < o + 16 * c → TableDone stop buf end o c buf true
+  pub table_left : length buf < o + 16 * c → TableDone stop buf end o c buf true
   unfolding table_filled
-  table-left h = record { leaves = λ _. rw (lt-leb (o + 16 * c) (length buf) h); apart = not_met }
+  table_left h = record { leaves = λ _. rw (lt-leb (o + 16 * c) (length buf) h); apart = not_met }
 
-  pub table_filled : o + 16 * c ≤ length buf → {pairs buf' : List ℕ} {met : Bool} → PairsCopied pairs buf o c
+  pub table_filled_lem : o + 16 * c ≤ length buf → {pairs buf' : List ℕ} {met : Bool} → PairsCopied pairs buf o c
       → PairsInserted stop buf end o c pairs buf' met → TableDone stop buf end o c buf' met
   unfolding table_filled
-  table_filled h copied done =
+  table_filled_lem h copied done =
       let l = pairs_copied copied c (omega arith) in
       record {
         leaves = λ on.

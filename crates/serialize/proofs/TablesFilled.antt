@@ -6,13 +6,13 @@ use lib.Seq.{sets, take-append_seam}
 use Rattle.jhash.proofs.Outcomes.{hash_of_below}
 use Rattle.image.specs.Bytes.{cat, range}
 use Rattle.image.specs.Tables.{Bucket, filled}
-use Rattle.image.specs.Image.{Entry, Placed, head_size, entries_size, placed, in_table, of_table, count, bucket_of, bucket_bytes, table, table_bytes, tables}
+use Rattle.image.specs.Image.{Entry, Placed, head_size, entries_size, placed, in_table_lem, of_table, count, bucket_of, bucket_bytes, table, table_bytes, tables}
 use Rattle.image.specs.Image.{entries_before, back_words, back_size_of, back_offset, entries_end, image_size, image}
 use Rattle.image.specs.declared.Mode.{Mode}
 use Rattle.image.proofs.Lists.{cat_ext, cat_run}
-use Rattle.image.proofs.Sizes.{length-placed, length-table_bytes, before-suc}
-use Rattle.image.proofs.Stores.{sets-whole}
-use Rattle.image.proofs.AllOfList.{All, all_filter, all-image}
+use Rattle.image.proofs.Sizes.{length_placed, length-table_bytes, before_suc}
+use Rattle.image.proofs.Stores.{sets_whole}
+use Rattle.image.proofs.AllOfList.{All, all_filter, all_image}
 use Rattle.image.proofs.At.{At, at_same, at_equal, at_left, at_right}
 use Rattle.image.proofs.Parts.{placed_in, before_most}
 use Rattle.serialize.specs.Steps.Partition.{table_offsets_from, partitioned_from, pairs_stored, table_filled, tables_from}
@@ -49,9 +49,9 @@ module _ (mode : Mode) (es : List Entry) (X tail : List ℕ) (long : length X �
       let L = back_words (placed_in es) (back_size_of mode es) in
       ap₂ take (sym (length_up_to_entries mode es)) (append_assoc (U ++ R) L tail ∙ append_assoc U R (L ++ tail)) ∙ take-append_seam U (R ++ (L ++ tail))
 
-  pub filled-last : filled_to mode es X 256 tail ≡ up_to_entries mode es ++ tables (placed_in es) ++ back_words (placed_in es) (back_size_of mode es) ++ tail
+  pub filled_last : filled_to mode es X 256 tail ≡ up_to_entries mode es ++ tables (placed_in es) ++ back_words (placed_in es) (back_size_of mode es) ++ tail
   unfolding filled_to filling tables
-  filled-last =
+  filled_last =
       let ps = placed_in es in
       ap (λ (l : List ℕ). up_to_entries mode es ++ l ++ back_words ps (back_size_of mode es) ++ tail)
       (cat_run (filling ps X 256) (table_bytes ps) 0 256
@@ -65,7 +65,7 @@ module _ (mode : Mode) (es : List Entry) (X tail : List ℕ) (long : length X �
 
   pub tables_long : (t : ℕ) → length (cat (filling (placed_in es) X t) (range 0 256)) ≡ 16 * length es
   tables_long t =
-      length_areas (placed_in es) (filling (placed_in es) X t) (sized t) ∙ ap (λ (n : ℕ). 16 * n) (length-placed head_size es)
+      length_areas (placed_in es) (filling (placed_in es) X t) (sized t) ∙ ap (λ (n : ℕ). 16 * n) (length_placed head_size es)
 
   module _ (fits : image_size mode es ≤ 4294967295) (t : ℕ) (below : t < 256) where
     B : List ℕ
@@ -99,8 +99,8 @@ module _ (mode : Mode) (es : List Entry) (X tail : List ℕ) (long : length X �
     words : All Words bs
     unfolding bs ps of_table
     words =
-        all-image Words bucket_of (λ q h. (hash_of_below q.entry.name, omega arith)) (of_table t (placed_in es))
-        (all_filter (λ (q : Placed). q.at ≤ entries_end es) (in_table t) (placed_in es) (offsets head_size (entries_end es) es (omega arith)))
+        all_image Words bucket_of (λ q h. (hash_of_below q.entry.name, omega arith)) (of_table t (placed_in es))
+        (all_filter (λ (q : Placed). q.at ≤ entries_end es) (in_table_lem t) (placed_in es) (offsets head_size (entries_end es) es (omega arith)))
 
     pub pairs_are : pairs_stored (filled_to mode es X t tail) (entries_end es + 16 * entries_before t (placed_in es)) (count t (placed_in es))
         ≡ map bucket_of (of_table t (placed_in es))
@@ -123,7 +123,7 @@ module _ (mode : Mode) (es : List Entry) (X tail : List ℕ) (long : length X �
         let f = filling (placed_in es) X t t in
         let v = table_bytes (placed_in es) t in
         ap (λ (l : List ℕ). sets l 0 v) (sym (append-nil f))
-        ∙ sets-whole v f [] (length-table_bytes (placed_in es) t ∙ sym (sized t t below))
+        ∙ sets_whole v f [] (length-table_bytes (placed_in es) t ∙ sym (sized t t below))
         ∙ append-nil v
         ∙ sym done
       where
@@ -146,12 +146,12 @@ module _ (mode : Mode) (es : List Entry) (X tail : List ℕ) (long : length X �
         let size : entries_end es + 16 * length es ≤ length (U ++ R ++ L ++ tail) =
         omega (arith, length-append (U ++ R ++ L) tail, length-append (U ++ R) L) in
         let most = before_most (placed_in es) t below in
-        let yes : leb (o + 16 * c) (length B) ≡ true = le-leb (o + 16 * c) (length B) (omega (arith, length-placed head_size es)) in
+        let yes : leb (o + 16 * c) (length B) ≡ true = le-leb (o + 16 * c) (length B) (omega (arith, length_placed head_size es)) in
         ap (λ (b : Bool). cond b (sets B o (cat bucket_bytes (filled (2 * c) (pairs_stored B o c)))) B) yes
         ∙ ap (λ (l : List Bucket). sets B o (cat bucket_bytes (filled (2 * c) l))) pairs_are
         ∙ ap (λ (l : List ℕ). sets l o v) (append_assoc (U ++ R) L tail)
         ∙ store_in U R (L ++ tail) v o j (omega (arith, length_up_to_entries mode es))
-        (omega (arith, tables_long t, length-table_bytes (placed_in es) t, length-placed head_size es))
+        (omega (arith, tables_long t, length-table_bytes (placed_in es) t, length_placed head_size es))
         ∙ ap (λ (l : List ℕ). U ++ l ++ (L ++ tail))
         (area_set (placed_in es) (filling (placed_in es) X t) (sized t) (filling (placed_in es) X (suc t)) v t 0 j below (omega arith)
         (omega (arith, length-table_bytes (placed_in es) t)) whole later)
@@ -168,7 +168,7 @@ module _ (mode : Mode) (es : List Entry) (X tail : List ℕ) (long : length X �
       let o = entries_end es + 16 * entries_before t ps in
       let F = filled_to mode es X t tail in
       let z : suc t + m ≡ t + suc m = omega arith in
-      let more : o + 16 * count t ps ≡ entries_end es + 16 * entries_before (suc t) ps = omega (arith, before-suc t ps) in
+      let more : o + 16 * count t ps ≡ entries_end es + 16 * entries_before (suc t) ps = omega (arith, before_suc t ps) in
       ap (λ (c : ℕ). tables_from counts (o + 16 * c) (suc t) m (table_filled F o c)) (tallies t below)
       ∙ ap (λ (l : List ℕ). tables_from counts (o + 16 * count t ps) (suc t) m l) (table_step fits t below)
       ∙ ap (λ (k : ℕ). tables_from counts k (suc t) m (filled_to mode es X (suc t) tail)) more
@@ -190,7 +190,7 @@ module _ (mode : Mode) (es : List Entry) (X tail counts : List ℕ) (long : leng
 
   pub places_first : Places (entries_end es) (placed_in es) (placed_in []) begins
   unfolding placed
-  places_first = places_begin counts (entries_end es) (placed_in es) tallies (omega (arith, length-placed head_size es))
+  places_first = places_begin counts (entries_end es) (placed_in es) tallies (omega (arith, length_placed head_size es))
 
   -- the entries that stand in the buffer partitioned
   pub parted_is : All (λ (x : Entry). x.id < 2 ^ 32) es
@@ -203,11 +203,11 @@ module _ (mode : Mode) (es : List Entry) (X tail counts : List ℕ) (long : leng
       ∙ half_walked mode es X tail long fits ids es [] refl begins places_first
       ∙ filled_first mode es X tail long
 
-  pub tables-image : tables_from counts (entries_end es) 0 256 (filled_to mode es X 0 tail) ≡ image mode es ++ tail
+  pub tables_image : tables_from counts (entries_end es) 0 256 (filled_to mode es X 0 tail) ≡ image mode es ++ tail
   unfolding entries_before image up_to_entries
-  tables-image =
+  tables_image =
       let end = entries_end es in
       let none : end ≡ end + 16 * entries_before 0 (placed_in es) = omega arith in
       ap (λ (k : ℕ). tables_from counts k 0 256 (filled_to mode es X 0 tail)) none
       ∙ tables_walked mode es X tail long fits counts tallies 256 0 (omega arith)
-      ∙ filled-last mode es X tail long
+      ∙ filled_last mode es X tail long

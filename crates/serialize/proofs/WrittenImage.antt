@@ -4,12 +4,12 @@ use lib.Seq.{sets}
 use Rattle.image.specs.Bytes.{cat, range}
 use Rattle.image.specs.Image.{Entry, head_size, entry_bytes, entries_size, head_words, table_rows, back_words, back_size_of, back_offset, entries_end, image_size, image}
 use Rattle.image.specs.declared.Mode.{Mode}
-use Rattle.image.proofs.Sizes.{length_entries, length-placed, length-back_words}
-use Rattle.image.proofs.Between.{length-between}
+use Rattle.image.proofs.Sizes.{length_entries, length_placed, length-back_words}
+use Rattle.image.proofs.Between.{length_between}
 use Rattle.image.proofs.Parts.{placed_in}
 use Rattle.image.proofs.AllOfList.{All}
 use Rattle.image.specs.Stored.{whole, between}
-use Rattle.image.proofs.EntryArea.{AllBytes, bytes_drop, bytes_take, length-entries_in, whole-bytes, ids_words}
+use Rattle.image.proofs.EntryArea.{AllBytes, bytes_drop, bytes_take, length-entries_in, whole_bytes, ids_words}
 use Rattle.serialize.specs.Serialize.{stored_entries}
 use Rattle.serialize.specs.Record.{finished_of}
 use Rattle.serialize.specs.Steps.Preconditions.{ClosePrecondition}
@@ -17,12 +17,12 @@ use Rattle.serialize.specs.Steps.Insertion.{entry_inserted, inserted_from}
 use Rattle.serialize.specs.Steps.Partition.{table_offsets_from, partitioned_from, tables_from}
 use Rattle.serialize.specs.Steps.Written.{back_offset_of, zeroed, begun_image}
 use Rattle.serialize.specs.Steps.Meeting.{Distinct, UnmetFrom, TablesApart, TablesDone, SinglyDone, AllDone, ImageWritten}
-use Rattle.serialize.proofs.HeadRows.{Counts, counts-agree}
+use Rattle.serialize.proofs.HeadRows.{Counts, counts_agree_lem}
 use Rattle.serialize.proofs.PartialImage.{up_to_entries, partial, partial_all}
 use Rattle.serialize.proofs.Cleared.{Numbers, size_is, back_offset_is, begun_is, cleared_partial}
 use Rattle.serialize.proofs.InsertStep.{next_at, length_found, step}
-use Rattle.serialize.proofs.TablesFilled.{filling, filled_to, tables_long, parted_is, tables-image}
-use Rattle.serialize.proofs.Distinct.{singly_distinct, by_tables-distinct}
+use Rattle.serialize.proofs.TablesFilled.{filling, filled_to, tables_long, parted_is, tables_image}
+use Rattle.serialize.proofs.Distinct.{singly_distinct, by_tables_distinct}
 
 -- the image of the entries, and if none of equal name met, no two have equal names
 pub record Imaged (stop : Bool) (mode : Mode) (es : List Entry) (tail after : List ℕ) (met : Bool) : Type 0 where
@@ -79,8 +79,8 @@ module _ (mode : Mode) (es : List Entry) (tail : List ℕ) (small : image_size m
       by_tables : TablesDone stop counts (entries_end es) buf after met → Imaged stop mode es tail after met
       by_tables d =
           record {
-            is = λ on. d.leaves on ∙ ap (tables_from counts (entries_end es) 0 256) e ∙ tables-image mode es X tail counts long small tallies;
-            distinct = λ z. by_tables-distinct mode es X tail long small counts tallies
+            is = λ on. d.leaves on ∙ ap (tables_from counts (entries_end es) 0 256) e ∙ tables_image mode es X tail counts long small tallies;
+            distinct = λ z. by_tables_distinct mode es X tail long small counts tallies
                 (subst (λ (b : List ℕ). TablesApart (take (entries_end es) b) counts (entries_end es) 0 256 b) e (d.apart z));
           }
 
@@ -109,7 +109,7 @@ module _ (end entries : ℕ) (buf : List ℕ) (bytes : AllBytes buf) (entire : w
 
   -- the bytes of the entries are kept
   pub area_kept : between buf head_size end ≡ cat entry_bytes (stored_entries buf end entries)
-  area_kept = whole-bytes entries (between buf head_size end) area_bytes entire
+  area_kept = whole_bytes entries (between buf head_size end) area_bytes entire
 
   pub stored_number : length (stored_entries buf end entries) ≡ entries
   stored_number = length-entries_in entries (between buf head_size end)
@@ -141,10 +141,10 @@ module _ (mode : Mode) (end entries back : ℕ) (counts buf : List ℕ) (bytes :
   numbers : Numbers mode end entries back counts buf es
   unfolding es
   numbers = record {
-    ends = stored_end end entries buf bytes asked.whole_entries asked.after-head (omega (arith, asked.fits_buffer));
+    ends = stored_end end entries buf bytes asked.whole_entries asked.after_head (omega (arith, asked.fits_buffer));
     number = sym (stored_number end entries buf bytes asked.whole_entries);
     backs = asked.back_agrees;
-    tallies = counts-agree counts (stored_entries buf end entries) asked.counts-agree;
+    tallies = counts_agree_lem counts (stored_entries buf end entries) asked.counts_agree_lem;
     inside = asked.fits_buffer;
   }
 
@@ -157,8 +157,8 @@ module _ (mode : Mode) (end entries back : ℕ) (counts buf : List ℕ) (bytes :
 
   area_long : length X ≡ 16 * length (placed_in es)
   area_long =
-      let sum = length-between buf end (end + 16 * entries) (omega arith) (omega (arith, asked.fits_buffer)) in
-      omega (arith, sum, numbers.number, length-placed head_size es)
+      let sum = length_between buf end (end + 16 * entries) (omega arith) (omega (arith, asked.fits_buffer)) in
+      omega (arith, sum, numbers.number, length_placed head_size es)
 
   begun : begun_image mode end entries back counts buf ≡ up_to_entries mode es ++ X ++ back_words [] (back_size_of mode es) ++ tail
   unfolding up_to_entries es
@@ -179,7 +179,7 @@ module _ (mode : Mode) (end entries back : ℕ) (counts buf : List ℕ) (bytes :
       let L = back_words [] (back_size_of mode es) in
       let long = length-back_words [] (back_size_of mode es) in
       written
-      (singly_imaged mode es tail image_small ids X L (omega (arith, length-append X L, area_long, length-placed head_size es, long)) (eb ∙ begun)
+      (singly_imaged mode es tail image_small ids X L (omega (arith, length-append X L, area_long, length_placed head_size es, long)) (eb ∙ begun)
       (singly_told (el ∙ back_offset_is mode end entries back counts buf es numbers) numbers.ends numbers.number
       (en ∙ size_is mode end entries back counts buf es numbers) b0 done))
 

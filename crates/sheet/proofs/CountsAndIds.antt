@@ -8,8 +8,8 @@ use lib.ListN.{length, get_or, take, drop, length-take, length-drop, get_or-eq_d
 use lib.Seq.{get_or-drop, get_or-take}
 use Rattle.jhash.specs.Steps.Reads.{ByteRead}
 use Rattle.image.specs.Bytes.{word, le32, cat}
-use Rattle.image.proofs.Words.{word-drop, word-le32, length-le32, le32-bytes}
-use Rattle.image.proofs.Lists.{length-cat}
+use Rattle.image.proofs.Words.{word_drop, word_le32, length_le32, le32_bytes}
+use Rattle.image.proofs.Lists.{length_cat}
 use Rattle.sheet.specs.Format.{count_at, count_bytes, ids, id_bytes}
 use Rattle.sheet.specs.Theorems.RoundSheet.{Below}
 use Rattle.sheet.specs.Steps.Contracts.{CountRead}
@@ -53,9 +53,9 @@ pub count_below : (s : List ℕ) (o : ℕ) → Below 256 s → count_at s o ≤ 
 unfolding count_at
 count_below s o below = omega (arith, byte_below s o below, byte_below s (o + 1) below)
 
-pub count-drop : (s : List ℕ) (n : ℕ) → count_at s n ≡ count_at (drop n s) 0
+pub count_drop : (s : List ℕ) (n : ℕ) → count_at s n ≡ count_at (drop n s) 0
 unfolding count_at
-count-drop s n =
+count_drop s n =
     let z : n + 0 ≡ n = omega arith in
     let o : n + (0 + 1) ≡ n + 1 = omega arith in
     omega (arith, get_or-drop n s 0 0, get_or-drop n s (0 + 1) 0, ap (λ (i : ℕ). get_or s i 0) z, ap (λ (i : ℕ). get_or s i 0) o)
@@ -72,11 +72,11 @@ two a b ha hb =
     small : (x : ℕ) → x < 256 → x % 256 ≡ x
     small x h = omega arith
 
-pub count-bytes : (s : List ℕ) → Below 256 s → 2 ≤ length s → count_bytes (count_at s 0) ≡ take 2 s
+pub count_bytes_lem : (s : List ℕ) → Below 256 s → 2 ≤ length s → count_bytes (count_at s 0) ≡ take 2 s
 unfolding count_at
-count-bytes [] below h = absurd (omega arith)
-count-bytes (a ∷ []) below h = absurd (omega arith)
-count-bytes (a ∷ b ∷ s) below h = two a b (below 0 (omega arith)) (below 1 (omega arith))
+count_bytes_lem [] below h = absurd (omega arith)
+count_bytes_lem (a ∷ []) below h = absurd (omega arith)
+count_bytes_lem (a ∷ b ∷ s) below h = two a b (below 0 (omega arith)) (below 1 (omega arith))
 
 -- ---- ids
 
@@ -87,7 +87,7 @@ length_ids (suc n) s = ap suc (length_ids n (drop 4 s))
 
 pub length-id_bytes : (xs : List ℕ) → length (id_bytes xs) ≡ 4 * length xs
 unfolding id_bytes
-length-id_bytes xs = length-cat le32 4 length-le32 xs
+length-id_bytes xs = length_cat le32 4 length_le32 xs
 
 pub ids_at : (n : ℕ) (s : List ℕ) (i : ℕ) → i < n → get_or (ids n s) i 0 ≡ word s (4 * i)
 unfolding ids
@@ -95,7 +95,7 @@ ids_at zero s i h = absurd (omega arith)
 ids_at (suc n) s zero h = refl
 ids_at (suc n) s (suc i) h =
     let e : 4 + 4 * i ≡ 4 * suc i = omega arith in
-    ids_at n (drop 4 s) i (omega arith) ∙ word-drop s 4 (4 * i) ∙ ap (word s) e
+    ids_at n (drop 4 s) i (omega arith) ∙ word_drop s 4 (4 * i) ∙ ap (word s) e
 
 pub no_id : (n : ℕ) (s : List ℕ) (i : ℕ) → n ≤ i → get_or (ids n s) i 0 ≡ 0
 no_id n s i h = get_or-eq_default (ids n s) 0 {n = i} (omega (arith, length_ids n s))
@@ -115,7 +115,7 @@ pub ids_back : (xs rest : List ℕ) → Below (2 ^ 32) xs → ids (length xs) (i
 unfolding ids id_bytes cat le32
 ids_back [] rest below = refl
 ids_back (x ∷ xs) rest below =
-    ap₂ {C = List ℕ} (λ (y : ℕ) (ys : List ℕ). y ∷ ys) (word-le32 x (id_bytes xs ++ rest) (below 0 (omega arith)))
+    ap₂ {C = List ℕ} (λ (y : ℕ) (ys : List ℕ). y ∷ ys) (word_le32 x (id_bytes xs ++ rest) (below 0 (omega arith)))
     (ids_back xs rest (λ i h. below (suc i) (omega arith)))
 
 -- and bytes from their ids
@@ -128,6 +128,6 @@ bytes_back (suc n) (a ∷ b ∷ []) below h = absurd (omega arith)
 bytes_back (suc n) (a ∷ b ∷ c ∷ []) below h = absurd (omega arith)
 bytes_back (suc n) (a ∷ b ∷ c ∷ d ∷ s) below h =
     let e : suc (suc (suc (suc (4 * n)))) ≡ 4 * suc n = omega arith in
-    ap₂ ◌++◌ (le32-bytes a b c d (below 0 (omega arith)) (below 1 (omega arith)) (below 2 (omega arith)) (below 3 (omega arith)))
+    ap₂ ◌++◌ (le32_bytes a b c d (below 0 (omega arith)) (below 1 (omega arith)) (below 2 (omega arith)) (below 3 (omega arith)))
     (bytes_back n s (λ i l. below (suc (suc (suc (suc i)))) (omega arith)) (omega arith))
     ∙ ap (λ (k : ℕ). take k (a ∷ b ∷ c ∷ d ∷ s)) e

@@ -12,10 +12,10 @@ use lib.Seq.{take_all}
 use Rattle.jhash.specs.Outcome.{Outcome, value, refusal}
 use Rattle.jhash.proofs.ValueOrRefusal.{no_value}
 use Rattle.sheet.specs.Format.{Lists, sheet_bytes}
-use Rattle.sheet.specs.SheetReading.{part_end, and_then, sections, nothing_left, read_sheet, lists_of, read_lists}
+use Rattle.sheet.specs.SheetReading.{part_end, and_then, sections, nothing_left, read_sheet, lists_of_lem, read_lists}
 use Rattle.sheet.specs.Theorems.RoundSheet.{Below, Fits}
 use Rattle.sheet.specs.declared.Sheet.{Sheet}
-use Rattle.sheet.proofs.Sheets.{Lie, Three, three-or_short, sheet_reads, lists_read, sheet_ends, front_again}
+use Rattle.sheet.proofs.Sheets.{Lie, Three, three_or_short, sheet_reads, lists_read, sheet_ends, front_again}
 
 module _ (file : List ℕ) where
   pub reading_short : sections file ≡ refusal 19 → read_sheet file ≡ refusal 19
@@ -27,19 +27,19 @@ module _ (file : List ℕ) where
     unfolding read_sheet
     checked = ap (λ (r : Outcome Sheet). and_then r (nothing_left file)) e
 
-    pub reading-left : part_end s.retired < length file → read_sheet file ≡ refusal 20
-    reading-left h = checked ∙ simp (lt-ltb (part_end s.retired) (length file) h)
+    pub reading_left : part_end s.retired < length file → read_sheet file ≡ refusal 20
+    reading_left h = checked ∙ simp (lt-ltb (part_end s.retired) (length file) h)
 
-    pub reading-whole : length file ≤ part_end s.retired → read_sheet file ≡ value s
-    reading-whole h = checked ∙ simp (le-ltb (part_end s.retired) (length file) h)
+    pub reading_whole : length file ≤ part_end s.retired → read_sheet file ≡ value s
+    reading_whole h = checked ∙ simp (le-ltb (part_end s.retired) (length file) h)
 
-  pub lists-of : (s : Sheet) → read_sheet file ≡ value s → read_lists file ≡ value (lists_of file s)
+  pub lists_of : (s : Sheet) → read_sheet file ≡ value s → read_lists file ≡ value (lists_of_lem file s)
   unfolding read_lists
-  lists-of s e = ap (λ (r : Outcome Sheet). and_then r (λ t. value (lists_of file t))) e
+  lists_of s e = ap (λ (r : Outcome Sheet). and_then r (λ t. value (lists_of_lem file t))) e
 
   pub no_lists : (n : ℕ) → read_sheet file ≡ refusal n → read_lists file ≡ refusal n
   unfolding read_lists
-  no_lists n e = ap (λ (r : Outcome Sheet). and_then r (λ t. value (lists_of file t))) e
+  no_lists n e = ap (λ (r : Outcome Sheet). and_then r (λ t. value (lists_of_lem file t))) e
 
 -- every file is a sheet, or goes on behind one, or breaks off
 pub record Whole (file : List ℕ) : Type 0 where
@@ -58,16 +58,16 @@ abbrev pub Cases : List ℕ → Type 0
 Cases file = Whole file ⊎ (Longer file ⊎ (read_sheet file ≡ refusal 19))
 
 pub cases : (file : List ℕ) → Cases file
-cases file = found (three-or_short file)
+cases file = found (three_or_short file)
   where
     ended : (t : Three file) (left : Bool) → ltb (part_end t.places.retired) (length file) ≡ left → Cases file
     ended t true k =
         let h = ltb-true (part_end t.places.retired) (length file) k in
-        inr (inl (record { places = t.places; lie = t.lie; read = reading-left file t.places t.found h; end = h }))
+        inr (inl (record { places = t.places; lie = t.lie; read = reading_left file t.places t.found h; end = h }))
     ended t false k =
         let h = ltb-false (part_end t.places.retired) (length file) k in
         let inside = t.lie.retired.inside in
-        inl (record { places = t.places; lie = t.lie; read = reading-whole file t.places t.found h; end = omega arith })
+        inl (record { places = t.places; lie = t.lie; read = reading_whole file t.places t.found h; end = omega arith })
 
     found : Three file ⊎ (sections file ≡ refusal 19) → Cases file
     found (inl t) = ended t (ltb (part_end t.places.retired) (length file)) refl
@@ -95,16 +95,16 @@ pub sheet_back : (l : Lists) → Fits l → read_lists (sheet_bytes l) ≡ value
 sheet_back l fits =
     let file = sheet_bytes l ++ [] in
     let same : file ≡ sheet_bytes l = append-nil (sheet_bytes l) in
-    let read = reading-whole file _ (sheet_reads l [] fits) (omega (arith, sheet_ends l [], length-append (sheet_bytes l) [])) in
-    ap read_lists (sym same) ∙ lists-of file _ read ∙ ap value (lists_read l [] fits)
+    let read = reading_whole file _ (sheet_reads l [] fits) (omega (arith, sheet_ends l [], length-append (sheet_bytes l) [])) in
+    ap read_lists (sym same) ∙ lists_of file _ read ∙ ap value (lists_read l [] fits)
 
 pub longer_read : (l : Lists) (rest : List ℕ) → Fits l → ¬ (rest ≡ []) → read_sheet (sheet_bytes l ++ rest) ≡ refusal 20
 longer_read l [] fits n = absurd (n refl)
 longer_read l (x ∷ rest) fits n =
-    reading-left (sheet_bytes l ++ x ∷ rest) _ (sheet_reads l (x ∷ rest) fits)
+    reading_left (sheet_bytes l ++ x ∷ rest) _ (sheet_reads l (x ∷ rest) fits)
     (omega (arith, sheet_ends l (x ∷ rest), length-append (sheet_bytes l) (x ∷ rest)))
 
 -- a whole file is what the writer makes of its lists
-pub whole_again : (file : List ℕ) → Below 256 file → (w : Whole file) → sheet_bytes (lists_of file w.places) ≡ file
+pub whole_again : (file : List ℕ) → Below 256 file → (w : Whole file) → sheet_bytes (lists_of_lem file w.places) ≡ file
 whole_again file below w =
     front_again file w.places w.lie below ∙ take_all (part_end w.places.retired) file (omega (arith, w.end))

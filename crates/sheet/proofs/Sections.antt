@@ -15,7 +15,7 @@ use Rattle.sheet.specs.Format.{count_at, count_bytes, ids, id_bytes, section_byt
 use Rattle.sheet.specs.SheetReading.{part_end, part_bytes, ids_in, section_at}
 use Rattle.sheet.specs.Theorems.RoundSheet.{Below, Holdable, HoldsIds}
 use Rattle.sheet.specs.declared.SectionPlace.{SectionPlace}
-use Rattle.sheet.proofs.CountsAndIds.{below_drop, below_take, length-count_bytes, count_back, count_below, count-drop, count-bytes}
+use Rattle.sheet.proofs.CountsAndIds.{below_drop, below_take, length-count_bytes, count_back, count_below, count_drop, count_bytes_lem}
 use Rattle.sheet.proofs.CountsAndIds.{length_ids, length-id_bytes, ids_below, ids_back, bytes_back}
 
 -- where the section at o was found
@@ -35,13 +35,13 @@ module _ (file : List ℕ) (o : ℕ) where
   abbrev here : SectionPlace
   here = record { start = o + 2; count = count_at file o }
 
-  pub no-count : length file < o + 2 → section_at file o ≡ refusal 19
+  pub no_count : length file < o + 2 → section_at file o ≡ refusal 19
   unfolding section_at
-  no-count h = simp (lt-ltb (length file) (o + 2) h)
+  no_count h = simp (lt-ltb (length file) (o + 2) h)
 
-  pub no-ids : o + 2 ≤ length file → length file < part_end here → section_at file o ≡ refusal 19
+  pub no_ids : o + 2 ≤ length file → length file < part_end here → section_at file o ≡ refusal 19
   unfolding section_at
-  no-ids h k = simp (le-ltb (length file) (o + 2) h, lt-ltb (length file) (part_end here) k)
+  no_ids h k = simp (le-ltb (length file) (o + 2) h, lt-ltb (length file) (part_end here) k)
 
   pub lies : part_end here ≤ length file → section_at file o ≡ value here
   unfolding section_at
@@ -52,13 +52,13 @@ module _ (file : List ℕ) (o : ℕ) where
   found_or_short = counted (ltb (length file) (o + 2)) refl
     where
       held : (t : Bool) → ltb (length file) (part_end here) ≡ t → o + 2 ≤ length file → FoundAt file o ⊎ (section_at file o ≡ refusal 19)
-      held true k c = inr (no-ids c (ltb-true (length file) (part_end here) k))
+      held true k c = inr (no_ids c (ltb-true (length file) (part_end here) k))
       held false k c =
           let l = ltb-false (length file) (part_end here) k in
           inl (record { place = here; found = lies l; lies = record { start = refl; count = refl; inside = l } })
 
       counted : (t : Bool) → ltb (length file) (o + 2) ≡ t → FoundAt file o ⊎ (section_at file o ≡ refusal 19)
-      counted true k = inr (no-count (ltb-true (length file) (o + 2) k))
+      counted true k = inr (no_count (ltb-true (length file) (o + 2) k))
       counted false k = held (ltb (length file) (part_end here)) refl (ltb-false (length file) (o + 2) k)
 
   pub found_inside : (p : SectionPlace) → section_at file o ≡ value p → part_end p ≤ length file
@@ -92,7 +92,7 @@ module _ (front xs rest : List ℕ) where
 
   counted : length xs ≤ 65535 → count_at around (length front) ≡ length xs
   counted h =
-      count-drop around (length front)
+      count_drop around (length front)
       ∙ ap (λ (s : List ℕ). count_at s 0) (drop-append_seam front (section_bytes xs ++ rest) ∙ opened)
       ∙ count_back (length xs) (id_bytes xs ++ rest) h
 
@@ -122,18 +122,18 @@ module _ (file : List ℕ) (o : ℕ) (p : SectionPlace) (l : Lies file o p) wher
   part_length : length held ≡ 4 * p.count
   part_length = simp (length-take, length-drop) (omega (arith, l.inside))
 
-  ids-count : ids_in held ≡ ids p.count held
-  ids-count = let n : length held / 4 ≡ p.count = omega (arith, part_length) in ap (λ (k : ℕ). ids k held) n
+  ids_count : ids_in held ≡ ids p.count held
+  ids_count = let n : length held / 4 ≡ p.count = omega (arith, part_length) in ap (λ (k : ℕ). ids k held) n
 
   pub part_holds : HoldsIds file p
-  part_holds = record { bytes = part_length; number = ap length ids-count ∙ length_ids p.count held }
+  part_holds = record { bytes = part_length; number = ap length ids_count ∙ length_ids p.count held }
 
   module _ (below : Below 256 file) where
     held_below : Below 256 held
     held_below = below_take (4 * p.count) 256 (drop p.start file) (below_drop p.start 256 file below)
 
     pub holdable : Holdable (ids_in held)
-    holdable = rw ids-count (record {
+    holdable = rw ids_count (record {
       count = omega (arith, length_ids p.count held, l.count, count_below file o below);
       words = ids_below p.count held held_below;
     })
@@ -142,12 +142,12 @@ module _ (file : List ℕ) (o : ℕ) (p : SectionPlace) (l : Lies file o p) wher
     pub bytes_again : section_bytes (ids_in held) ≡ take (2 + 4 * p.count) (drop o file)
     unfolding section_bytes
     bytes_again =
-        ap (λ (xs : List ℕ). count_bytes (length xs) ++ id_bytes xs) ids-count
-        ∙ ap₂ ◌++◌ (ap count_bytes (length_ids p.count held ∙ l.count ∙ count-drop file o) ∙ first) second
+        ap (λ (xs : List ℕ). count_bytes (length xs) ++ id_bytes xs) ids_count
+        ∙ ap₂ ◌++◌ (ap count_bytes (length_ids p.count held ∙ l.count ∙ count_drop file o) ∙ first) second
         ∙ sym (take-add 2 (4 * p.count) (drop o file))
       where
         first : count_bytes (count_at (drop o file) 0) ≡ take 2 (drop o file)
-        first = count-bytes (drop o file) (below_drop o 256 file below) (simp length-drop (omega (arith, l.start, l.inside)))
+        first = count_bytes_lem (drop o file) (below_drop o 256 file below) (simp length-drop (omega (arith, l.start, l.inside)))
 
         second : id_bytes (ids p.count held) ≡ take (4 * p.count) (drop 2 (drop o file))
         second =

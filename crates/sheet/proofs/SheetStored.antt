@@ -11,7 +11,7 @@ use lib.Dec.{ltb}
 use lib.ListN.{length, get_or, set, take, drop, drop_of_length-le, length-append}
 use lib.Seq.{sets, sets-eq, drop-cons, take-append_seam}
 use Rattle.image.specs.Bytes.{le32, cat}
-use Rattle.image.proofs.Words.{length-le32}
+use Rattle.image.proofs.Words.{length_le32}
 use Rattle.image.proofs.Stores.{sets_then}
 use Rattle.jhash.specs.Outcome.{Outcome, value, refusal}
 use Rattle.jhash.proofs.ValueOrRefusal.{no_value, same_value}
@@ -61,20 +61,20 @@ module _ (buf : List ℕ) (l : Lists) where
 
 -- ---- stores of ids, of a section and of the file
 
-id-bytes : (x : ℕ) (xs : List ℕ) → id_bytes (x ∷ xs) ≡ le32 x ++ id_bytes xs
+id_bytes_lem : (x : ℕ) (xs : List ℕ) → id_bytes (x ∷ xs) ≡ le32 x ++ id_bytes xs
 unfolding id_bytes cat
-id-bytes x xs = refl
+id_bytes_lem x xs = refl
 
 module _ (ids l : List ℕ) (at i : ℕ) where
   pub put_turn : i < length ids
       → sets (sets l (at + 4 * i) (le32 (get_or ids i 0))) (at + 4 * (i + 1)) (id_bytes (drop (i + 1) ids)) ≡ sets l (at + 4 * i) (id_bytes (drop i ids))
   put_turn h =
       let x = get_or ids i 0 in
-      let e : at + 4 * (i + 1) ≡ at + 4 * i + length (le32 x) = omega (arith, length-le32 x) in
+      let e : at + 4 * (i + 1) ≡ at + 4 * i + length (le32 x) = omega (arith, length_le32 x) in
       let f : i + 1 ≡ suc i = omega arith in
       sets_then (le32 x) (id_bytes (drop (i + 1) ids)) l (at + 4 * i) (at + 4 * (i + 1)) e
       ∙ ap (λ (k : ℕ). sets l (at + 4 * i) (le32 x ++ id_bytes (drop k ids))) f
-      ∙ ap (sets l (at + 4 * i)) (sym (ap id_bytes (drop-cons ids i 0 h) ∙ id-bytes x (drop (suc i) ids)))
+      ∙ ap (sets l (at + 4 * i)) (sym (ap id_bytes (drop-cons ids i 0 h) ∙ id_bytes_lem x (drop (suc i) ids)))
 
   pub put_end : length ids ≤ i → (o : ℕ) → sets l o (id_bytes (drop i ids)) ≡ l
   unfolding id_bytes cat

@@ -12,9 +12,9 @@ use Rattle.validity.specs.declared.Date.{Date}
 
 module _ (d : Date) where
   -- in a year within the bounds, from the first day of the month on, its last day decides
-  pub by_last-day : 1900 ≤ d.year → d.year ≤ 2199 → 1 ≤ d.day → leb d.day (month_length d.year d.month) ≡ is_date d
+  pub by_last_day : 1900 ≤ d.year → d.year ≤ 2199 → 1 ≤ d.day → leb d.day (month_length d.year d.month) ≡ is_date d
   unfolding is_date
-  by_last-day low high day = simp (le-leb 1900 d.year low, le-leb d.year 2199 high, le-leb 1 d.day day)
+  by_last_day low high day = simp (le-leb 1900 d.year low, le-leb d.year 2199 high, le-leb 1 d.day day)
 
   -- in January 2200 the day decides
   pub by_new_year : is_date d ≡ false → d.year ≡ 2200 → d.month ≡ 1 → eqb d.day 1 ≡ is_end d

@@ -41,10 +41,10 @@ module _ (year : ℕ) where
   unfolding month_length one_of
   february m e l = sym (ap (month_length year) e ∙ simp l)
 
-  pub no-month : (m : ℕ) → (m < 1) ⊎ (12 < m) → 0 ≡ month_length year m
+  pub no_month : (m : ℕ) → (m < 1) ⊎ (12 < m) → 0 ≡ month_length year m
   unfolding month_length one_of
-  no-month m (inl h) = let e : m ≡ 0 = omega arith in sym (ap (month_length year) e)
-  no-month m (inr h) =
+  no_month m (inl h) = let e : m ≡ 0 = omega arith in sym (ap (month_length year) e)
+  no_month m (inr h) =
       sym (simp (
         off 1 (omega arith),
         off 2 (omega arith),

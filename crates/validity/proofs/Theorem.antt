@@ -18,7 +18,7 @@ use Rattle.validity.specs.Rule.{some_window, invalid_dates, inverted, holds_date
 use Rattle.validity.specs.Theorems.Seasons.{SomeAt, WindowsAccepted, Seasons}
 use Rattle.validity.specs.declared.Date.{Date}
 use Rattle.validity.specs.declared.Window.{Window}
-use Rattle.validity.proofs.Months.{no-month, month_lengths}
+use Rattle.validity.proofs.Months.{no_month, month_lengths}
 use Rattle.validity.proofs.Dates.{irreflexive, transitive, total}
 use Rattle.validity.proofs.WindowLaws.{placed}
 
@@ -46,10 +46,10 @@ module _ (test : Window → Bool) where
         | inr f ↦ some_behind w ws f ∙ e
       ]
 
-  some-window : (ws : List Window) → (some_window test ws ≡ true) ↔ SomeAt test ws
+  some_window_lem : (ws : List Window) → (some_window test ws ≡ true) ↔ SomeAt test ws
   unfolding some_window
-  some-window [] = (λ e. absurd (true≢false (sym e)), λ s. absurd (past_the_end s.2))
-  some-window (v ∷ ws) = (to (some-window ws), from (some-window ws))
+  some_window_lem [] = (λ e. absurd (true≢false (sym e)), λ s. absurd (past_the_end s.2))
+  some_window_lem (v ∷ ws) = (to (some_window_lem ws), from (some_window_lem ws))
     where
       to : ((some_window test ws ≡ true) ↔ SomeAt test ws) → some_window test (v ∷ ws) ≡ true → SomeAt test (v ∷ ws)
       to rest e =
@@ -72,12 +72,12 @@ module _ (test : Window → Bool) where
           | inr f ↦ some_behind v (vs ++ w ∷ after) f ∙ some_added vs (sym (some_behind v (vs ++ after) f) ∙ e)
         ]
 
-    pub none-added : (before : List Window) → test w ≡ false → some_window test (before ++ after) ≡ false → some_window test (before ++ w ∷ after) ≡ false
-    none-added [] n e = some_behind w after n ∙ e
-    none-added (v ∷ vs) n e =
+    pub none_added : (before : List Window) → test w ≡ false → some_window test (before ++ after) ≡ false → some_window test (before ++ w ∷ after) ≡ false
+    none_added [] n e = some_behind w after n ∙ e
+    none_added (v ∷ vs) n e =
         elim (decided (test v)) [
           | inl t ↦ absurd (true≢false (sym (some_here v (vs ++ after) t) ∙ e))
-          | inr f ↦ some_behind v (vs ++ w ∷ after) f ∙ none-added vs n (sym (some_behind v (vs ++ after) f) ∙ e)
+          | inr f ↦ some_behind v (vs ++ w ∷ after) f ∙ none_added vs n (sym (some_behind v (vs ++ after) f) ∙ e)
         ]
 
 -- ---- a window holds a date
@@ -174,7 +174,7 @@ adding image id date before after w s l first end starts e =
     let dated : invalid_dates w ≡ false = λ i. not (first i) || not (end i) in
     let straight : inverted w ≡ false = λ i. not (starts i) in
     (named_exactly image id date (before ++ w ∷ after) s l).1 (
-      (so.0.0, none-added invalid_dates w after before dated so.0.1, none-added inverted w after before straight so.0.2),
+      (so.0.0, none_added invalid_dates w after before dated so.0.1, none_added inverted w after before straight so.0.2),
       so.1,
       some_added (holds_date id date) w after before so.2,
     )
@@ -182,11 +182,11 @@ adding image id date before after w s l first end starts e =
 pub seasons : Seasons
 seasons = record {
   month_lengths = month_lengths;
-  no_other_month = λ year month h. sym (no-month year month h);
+  no_other_month = λ year month h. sym (no_month year month h);
   irreflexive = irreflexive;
   transitive = transitive;
   total = total;
-  some-window = some-window;
+  some_window_lem = some_window_lem;
   holds_exactly = holds_exactly;
   named_exactly = named_exactly;
   gives_22 = gives_22;

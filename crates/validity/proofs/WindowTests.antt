@@ -33,15 +33,15 @@ module _ (s t u : WindowState) (e : t ≡ u) (m n : ℕ) (es : m ≡ rank s) (et
   ranks : ltb m n ≡ ltb (rank s) (rank u)
   ranks = λ i. ltb (es i) ((et ∙ ap rank e) i)
 
-  pub stronger-new : m < n → t ≡ stronger s u
-  stronger-new h = e ∙ ap (λ (b : Bool). cond b u s) (sym (lt-ltb m n h) ∙ ranks)
+  pub stronger_new : m < n → t ≡ stronger s u
+  stronger_new h = e ∙ ap (λ (b : Bool). cond b u s) (sym (lt-ltb m n h) ∙ ranks)
 
-  pub stronger-old : n ≤ m → s ≡ stronger s u
-  stronger-old h = ap (λ (b : Bool). cond b u s) (sym (le-ltb m n h) ∙ ranks)
+  pub stronger_old : n ≤ m → s ≡ stronger s u
+  stronger_old h = ap (λ (b : Bool). cond b u s) (sym (le-ltb m n h) ∙ ranks)
 
 module _ (image : List ℕ) (id : ℕ) (date : Date) (s : WindowState) where
-  pub no-date : is_date date ≡ false → refusal 22 ≡ place_by_state image id date s
-  no-date e = ap (λ (t : Bool). cond (not t) (refusal 22) (answer_by s (naming image id))) (sym e)
+  pub no_date : is_date date ≡ false → refusal 22 ≡ place_by_state image id date s
+  no_date e = ap (λ (t : Bool). cond (not t) (refusal 22) (answer_by s (naming image id))) (sym e)
 
   pub by_state : (t : WindowState) → is_date date ≡ true → s ≡ t → answer_by t (naming image id) ≡ place_by_state image id date s
   by_state t e q =
@@ -70,8 +70,8 @@ module _ (image : Slice) (id : ℕ) (date : Date) (s : WindowState) where
   abbrev part_of : Outcome Naming → Slice
   part_of x = slice_or image (subslice image 0 0) (named_in x)
 
-  pub no-date_part : is_date date ≡ false → subslice image 0 0 ≡ part_by_state image id date s
-  no-date_part e = ap part_of (no-date image.bytes id date s e)
+  pub no_date_part : is_date date ≡ false → subslice image 0 0 ≡ part_by_state image id date s
+  no_date_part e = ap part_of (no_date image.bytes id date s e)
 
   pub by_state_part : (t : WindowState) → is_date date ≡ true → s ≡ t → part_of (answer_by t (naming image.bytes id)) ≡ part_by_state image id date s
   by_state_part t e q = ap part_of (by_state image.bytes id date s t e q)

@@ -31,9 +31,9 @@ module _ (w : CQDBWriter) (counts buf : List ℕ) (fit : fits (state_with w coun
       let l = not_too_large w.length (finished_size w) fine in
       let f = fitting w counts buf fit in
       record {
-        after-head = f.low;
+        after_head = f.low;
         whole_entries = and_first a b ab;
-        counts-agree = and_second a b ab;
+        counts_agree_lem = and_second a b ab;
         back_agrees = eqb-true w.back (back_in w.mode (back_size (recorded s))) (and_second (a && b) c all);
         fits_buffer = omega (arith, l.0, f.same_length);
         fits_word = l.1;

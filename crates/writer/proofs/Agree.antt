@@ -12,8 +12,8 @@ use borrow.Author.Tests.{eq-eqb, ne_eqb}
 use Rattle.jhash.specs.NameHash.{hash_of}
 use Rattle.image.specs.Tables.{table_of}
 use Rattle.image.specs.Image.{Entry, Placed, head_size, entry_size, placed, count}
-use Rattle.image.proofs.EntryWalk.{tallied-cons}
-use Rattle.image.proofs.Sizes.{count_nil, count-cons}
+use Rattle.image.proofs.EntryWalk.{tallied_cons}
+use Rattle.image.proofs.Sizes.{count_nil, count_cons}
 use Rattle.image.proofs.AllOfRange.{all_ext}
 use Rattle.writer.specs.State.{counts_agree}
 use Rattle.image.specs.Tally.{tallied, raised_counts}
@@ -48,18 +48,18 @@ get_or_raised counts h t l =
     plus_none : (x : ℕ) → x ≡ x + 0
     plus_none x = omega arith
 
-pub tallied-count : (es : List Entry) (counts : List ℕ) (o t : ℕ) → t < length counts
+pub tallied_count : (es : List Entry) (counts : List ℕ) (o t : ℕ) → t < length counts
     → get_or (tallied counts es) t 0 ≡ get_or counts t 0 + count t (placed o es)
 unfolding tallied placed
-tallied-count [] counts o t l = omega (arith, count_nil t)
-tallied-count (e ∷ es) counts o t l =
+tallied_count [] counts o t l = omega (arith, count_nil t)
+tallied_count (e ∷ es) counts o t l =
     let p : Placed = record { entry = e; at = o } in
     let h = hash_of e.name in
-    ap (λ (c : List ℕ). get_or c t 0) (tallied-cons counts e es)
-    ∙ tallied-count es (raised_counts counts h) (o + entry_size e) t (omega (arith, length_raised counts h))
+    ap (λ (c : List ℕ). get_or c t 0) (tallied_cons counts e es)
+    ∙ tallied_count es (raised_counts counts h) (o + entry_size e) t (omega (arith, length_raised counts h))
     ∙ sum (get_or (raised_counts counts h) t 0) (get_or counts t 0) (cond (eqb (table_of h) t) 1 0) (count t (placed (o + entry_size e) es))
     (count t (p ∷ placed (o + entry_size e) es))
-    (get_or_raised counts h t l) (count-cons t p (placed (o + entry_size e) es))
+    (get_or_raised counts h t l) (count_cons t p (placed (o + entry_size e) es))
   where
     sum : (x y b z w : ℕ) → x ≡ y + b → w ≡ b + z → x + z ≡ y + w
     sum x y b z w p q = omega arith
@@ -81,5 +81,5 @@ same_agree counts es tally e =
     each : (t : ℕ) → t < 256 → get_or tally t 0 ≡ count t (placed head_size es)
     each t h =
         ap (λ (l : List ℕ). get_or l t 0) e
-        ∙ tallied-count es (replicate 256 0) head_size t (omega (arith, length-replicate {A = ℕ} 256 0))
+        ∙ tallied_count es (replicate 256 0) head_size t (omega (arith, length-replicate {A = ℕ} 256 0))
         ∙ none (get_or (replicate 256 0) t 0) (count t (placed head_size es)) (zeros 256 t)

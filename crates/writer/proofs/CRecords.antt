@@ -29,8 +29,8 @@ mode_word mode fine = by_test (eqb mode 0) refl
     by_test false e = omega (arith, eqb-false mode 0 e)
 
 -- and one that stands for a choice of repeats is that one's
-repeats-word : (repeats : ℕ) → repeats ≤ 1 → repeats_word (repeats_of repeats) ≡ repeats
-repeats-word repeats fine = by_test (eqb repeats 0) refl
+repeats_word_lem : (repeats : ℕ) → repeats ≤ 1 → repeats_word (repeats_of repeats) ≡ repeats
+repeats_word_lem repeats fine = by_test (eqb repeats 0) refl
   where
     by_test : (t : Bool) → eqb repeats 0 ≡ t → repeats_word (cond t Off On) ≡ repeats
     by_test true e = sym (eqb-true repeats 0 e)
@@ -47,7 +47,7 @@ back_and_forth h fine =
     h.counts
     h.buffer)
     (mode_word w.mode (leb-true w.mode 1 (and_first (leb w.mode 1) (leb w.repeats 1) fine)))
-    (repeats-word w.repeats (leb-true w.repeats 1 (and_second (leb w.mode 1) (leb w.repeats 1) fine)))
+    (repeats_word_lem w.repeats (leb-true w.repeats 1 (and_second (leb w.mode 1) (leb w.repeats 1) fine)))
 
 -- the other way round: 01's record, as C has it, is one of 01's and stands for itself
 pub c_state_known : (s : State) → known_in (c_state_of s) ≡ true

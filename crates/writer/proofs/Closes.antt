@@ -21,21 +21,21 @@ module _ (s : State) where
   closes h k l = rw (h, k, l) (refl, refl)
 
   -- the number of its refusal
-  pub due-unfit : fits s ≡ false → 2 ≡ close_refusal s
+  pub due_unfit : fits s ≡ false → 2 ≡ close_refusal s
   unfolding close_refusal
-  due-unfit h = rw h refl
+  due_unfit h = rw h refl
 
   pub due_big : fits s ≡ true → too_large s.writer.length (finished_size s.writer) ≡ true → 4 ≡ close_refusal s
   unfolding close_refusal
   due_big h k = rw (h, k, and-false (consistent s)) refl
 
-  pub due-differs : fits s ≡ true → consistent s ≡ false → 4 ≡ close_refusal s
+  pub due_differs : fits s ≡ true → consistent s ≡ false → 4 ≡ close_refusal s
   unfolding close_refusal
-  due-differs h k = rw (h, k) refl
+  due_differs h k = rw (h, k) refl
 
-  pub due-none : fits s ≡ true → too_large s.writer.length (finished_size s.writer) ≡ false → consistent s ≡ true → 0 ≡ close_refusal s
+  pub due_none : fits s ≡ true → too_large s.writer.length (finished_size s.writer) ≡ false → consistent s ≡ true → 0 ≡ close_refusal s
   unfolding close_refusal
-  due-none h k l = rw (h, k, l) refl
+  due_none h k l = rw (h, k, l) refl
 
 -- what an accepted close has passed
 pub record Accepted (s : State) : Type 0 where

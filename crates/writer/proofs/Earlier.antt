@@ -43,8 +43,8 @@ module _ (w : CQDBWriter) (counts buf name : List ℕ) (b : Bool) (is_whole : b 
   abbrev backs : Bool
   backs = eqb w.back (back_in w.mode (back_size (recorded s)))
 
-  pub not-whole : b ≡ false → 4 ≡ walk_refusal (state_with w counts buf) name
-  not-whole no_more = fails s name (and3_first_fails (whole w.entries (entry_area s)) (counts_agree counts (recorded s)) backs (sym is_whole ∙ no_more))
+  pub not_whole : b ≡ false → 4 ≡ walk_refusal (state_with w counts buf) name
+  not_whole no_more = fails s name (and3_first_fails (whole w.entries (entry_area s)) (counts_agree counts (recorded s)) backs (sym is_whole ∙ no_more))
 
   module _ (yes-whole : b ≡ true) (tally : List ℕ) (tells : tally ≡ tallied (replicate 256 0) (recorded s)) (d : Bool)
       (is_same : d ≡ same_counts counts tally) where

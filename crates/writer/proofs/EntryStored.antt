@@ -7,7 +7,7 @@ use lib.ListN.{length, set, length-append}
 use lib.Seq.{sets}
 use Rattle.image.specs.Bytes.{le32}
 use Rattle.image.specs.Image.{entry_bytes}
-use Rattle.image.proofs.Words.{length-le32}
+use Rattle.image.proofs.Words.{length_le32}
 use Rattle.image.proofs.Stores.{sets_then}
 use Rattle.writer.specs.Put.{entry_of}
 
@@ -18,8 +18,8 @@ unfolding entry_bytes
 stored_parts name b b1 b2 b3 at id p q r =
     let two : b2 ≡ sets b at (le32 id ++ le32 (length name + 1)) =
     q ∙ ap (λ (l : List ℕ). sets l (at + 4) (le32 (length name + 1))) p
-    ∙ sets_then (le32 id) (le32 (length name + 1)) b at (at + 4) (omega (arith, length-le32 id)) in
-    let len2 : length (le32 id ++ le32 (length name + 1)) ≡ 8 = simp (length-append, length-le32) in
+    ∙ sets_then (le32 id) (le32 (length name + 1)) b at (at + 4) (omega (arith, length_le32 id)) in
+    let len2 : length (le32 id ++ le32 (length name + 1)) ≡ 8 = simp (length-append, length_le32) in
     let three : b3 ≡ sets b at (le32 id ++ le32 (length name + 1) ++ name) =
     r ∙ ap (λ (l : List ℕ). sets l (at + 8) name) two
     ∙ sets_then (le32 id ++ le32 (length name + 1)) name b at (at + 8) (omega arith) in

@@ -69,6 +69,6 @@ back_after_le Twoway back id = omega arith
 back_after_le Oneway back id = omega arith
 
 -- a back size that a size within 32 bits counts fits 32 bits itself
-pub back_after-fits : (mode : Mode) (back id : ℕ) → back < 2 ^ 32 → 4 * back_in mode (back_after mode back id) ≤ 4294967295 → back_after mode back id < 2 ^ 32
-back_after-fits Twoway back id h k = omega arith
-back_after-fits Oneway back id h k = h
+pub back_after_fits : (mode : Mode) (back id : ℕ) → back < 2 ^ 32 → 4 * back_in mode (back_after mode back id) ≤ 4294967295 → back_after mode back id < 2 ^ 32
+back_after_fits Twoway back id h k = omega arith
+back_after_fits Oneway back id h k = h

@@ -4,7 +4,7 @@ use native.Mathlib.Omega.{arith}
 use mathlib.Core.List.{List}
 use lib.ListN.{length, length-replicate}
 use borrow.Author.Rules.{rules}
-use Rattle.image.proofs.NameEnds.{length-names}
+use Rattle.image.proofs.NameEnds.{length_names}
 use Rattle.batch.specs.RoundNames.{names}
 use Rattle.batch.specs.Steps.Duplicates.{HashedNames}
 use Rattle.batch.specs.Steps.Answers.{UniqueAnswered, EqualsPre}
@@ -63,7 +63,7 @@ equal_names c =
 -- the unique names have their answers
 answered : (c : tie.After-find-all) → UniqueAnswered (begun c).args.image.now (names_in c) (equals c) (answers c) (length (begun c).args.ends.now)
 answered c =
-    unique_answered (length-names (begun c).args.bytes.now (begun c).args.ends.now) (deduplicated c).deduplicate.ensures c.find-all.ensures.stored
+    unique_answered (length_names (begun c).args.bytes.now (begun c).args.ends.now) (deduplicated c).deduplicate.ensures c.find-all.ensures.stored
 
 deduplicate-requires : tie.Need-deduplicate-requires
 deduplicate-requires c κs =

@@ -8,7 +8,7 @@ use borrow.Author.Tests.{lt-ltb, le-ltb}
 use borrow.Author.Rules.{rules}
 use lib.ListN.{length, drop, length-take}
 use Rattle.jhash.specs.Outcome.{Outcome, value, refusal}
-use Rattle.image.proofs.NameEnds.{length-names}
+use Rattle.image.proofs.NameEnds.{length_names}
 use Rattle.batch.specs.RoundNames.{names, invalid_ends}
 use Rattle.batch.specs.Round.{round_words, round_buckets, round_outcome, left_by, after_round}
 use Rattle.batch.proofs.RoundAnswers.{outcome_by, left}
@@ -89,7 +89,7 @@ returns-4 c =
     (le-ltb places (length a.ends.now) else.if3.left)) in (
       ap value all.answer-all.ensures.count ∙ whole.0,
       ap (λ (l : List ℕ). l ++ drop (4 * length a.ends.now) a.answers.now) all.answer-all.ensures.stored
-          ∙ ap (λ (k : ℕ). round_words a.image.now xs ++ drop (4 * k) a.answers.now) (sym (length-names a.bytes.now a.ends.now))
+          ∙ ap (λ (k : ℕ). round_words a.image.now xs ++ drop (4 * k) a.answers.now) (sym (length_names a.bytes.now a.ends.now))
           ∙ whole.1,
     )
 

@@ -84,5 +84,5 @@ pub record Deduplicated (xs : List (List ℕ)) (equals unique : List ℕ) (n r :
   pub only_unique : (x : ℕ) → x < r → IsUnique equals (get_or unique x 0)
   pub rising : RisingTo unique r
   pub listed : (i : ℕ) → i < n → IsUnique equals i → Listed unique r i
-  pub listed-names : map (nth xs) (take r unique) ≡ different (take n xs)
+  pub listed_names : map (nth xs) (take r unique) ≡ different (take n xs)
   pub all_unique : n ≤ r → (i : ℕ) → i < n → IsUnique equals i

@@ -48,7 +48,7 @@ pub record RoundHolds : Type 0 where
   pub once_each : (xs : List (List ℕ)) → OnceEach xs
   -- "so never above that of single calls"; with all names different it is that sum
   pub not_above : (image : List ℕ) (xs : List (List ℕ)) → round_buckets image xs ≤ buckets_read image xs
-  pub all-different : (image : List ℕ) (xs : List (List ℕ)) → Distinct xs
+  pub all_different : (image : List ℕ) (xs : List (List ℕ)) → Distinct xs
       → round_buckets image xs ≡ buckets_read image xs
   -- "answer places past the last name keep their content"; a refusal writes nothing
   pub past_kept : (image bytes ends answers : List ℕ) → RoundAccepted image bytes ends answers

@@ -55,7 +55,7 @@ build-list-requires c κs =
       packed = straight s.before.before.before;
       ids_long = s.before.before.if2.false;
       refusals_long = s.before.if3.false;
-      head-fits = s.if4.false;
+      head_fits = s.if4.false;
     }
 
 returns-5 : tie.Need-returns-5

@@ -13,7 +13,7 @@ use Rattle.writer.specs.State.{refuses_repeats}
 use Rattle.build.specs.Steps.Stores.{list_entries, NoZeros}
 use Rattle.build.proofs.Needed.{sum_small}
 use Rattle.build.proofs.WrittenList.{names_short}
-use Rattle.build.proofs.ListWhole.{refusals_cleared, names-zero_free, all_built}
+use Rattle.build.proofs.ListWhole.{refusals_cleared, names_zero_free, all_built}
 use Rattle.build.proofs.build_direct.Statement.{statement}
 use Rattle.build.proofs.build_direct.Tie as tie
 
@@ -51,7 +51,7 @@ clean c =
     let s = begun c in
     let ends = s.args.ends.now in
     let some : length ends ≡ 0 → ⊥ = λ z. omega (arith, z, s.pre.capacity.some) in
-    names-zero_free s.args.bytes.now ends s.pre.list.packed _ (sym (begin_later ends (length ends) some))
+    names_zero_free s.args.bytes.now ends s.pre.list.packed _ (sym (begin_later ends (length ends) some))
     (sym (seen c).any-zero.ensures ∙ c.before.before.before.if1.false)
 
 -- ---- the needs
@@ -84,7 +84,7 @@ write-list-requires c κs =
         packed = s.pre.list.packed;
         ids_long = s.pre.list.ids_long;
         refusals_long = hashes_long h;
-        head-fits = s.pre.list.head-fits;
+        head_fits = s.pre.list.head_fits;
       };
       capacity = s.pre.capacity;
       hashed = h.hash-list.ensures.hashed;

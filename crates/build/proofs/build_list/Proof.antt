@@ -20,8 +20,8 @@ asked c = c.before.before.before.before.before
 abbrev tried : tie.Else2 → tie.After-build-direct
 tried c = c.before.before.before.before.before.before.before
 
-word-ids : (c : tie.After-has-capacity) → let a = (start c).args in (i : ℕ) → i < length a.ends.now → get_or a.ids.now i 0 < 2 ^ 32
-word-ids c i h = omega (arith, c.before.before.before.shared-slice-known3.given i)
+word_ids : (c : tie.After-has-capacity) → let a = (start c).args in (i : ℕ) → i < length a.ends.now → get_or a.ids.now i 0 < 2 ^ 32
+word_ids c i h = omega (arith, c.before.before.before.shared-slice-known3.given i)
 
 -- ---- the needs
 
@@ -39,7 +39,7 @@ build-singly-requires-2 c κs =
       packed = p.packed;
       ids_long = p.ids_long;
       refusals_long = omega (arith, p.refusals_long, k.1.1.1.1.1.1.0);
-      head-fits = omega (arith, p.head-fits, k.1.1.0);
+      head_fits = omega (arith, p.head_fits, k.1.1.0);
     }
 
 returns-3 : tie.Need-returns-3
@@ -51,7 +51,7 @@ returns-3 c =
     let k = d.build-direct.kept in
     let t = d.build-direct.ensures in
     let none : d.build-direct.result ≡ 0 = omega (arith, e.if2.false) in
-    built_after s.args.mode s.args.repeats s.pre (word-ids (asked d)) k.1.1.0 t.behind k.1.1.1.1.1.1.0 (t.rest none)
+    built_after s.args.mode s.args.repeats s.pre (word_ids (asked d)) k.1.1.0 t.behind k.1.1.1.1.1.1.0 (t.rest none)
     b.build-singly2.ensures
 
 pub build_list_spec : {M : Type 1} → statement M

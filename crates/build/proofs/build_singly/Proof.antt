@@ -10,7 +10,7 @@ use Rattle.writer.specs.declared.CQDBWriter.{CQDBWriter}
 use Rattle.writer.specs.State.{state_with}
 use Rattle.lists.specs.Demand3.{answers_of, after_list}
 use Rattle.build.specs.Build.{listed}
-use Rattle.build.proofs.ListWhole.{begun_fresh, all-zero, list_closes, list_built}
+use Rattle.build.proofs.ListWhole.{begun_fresh, all_zero, list_closes, list_built}
 use Rattle.build.proofs.build_singly.Statement.{statement}
 use Rattle.build.proofs.build_singly.Tie as tie
 
@@ -37,8 +37,8 @@ slots_long : (c : tie.After-scratch-for-index)
     → let a = (start c).args in length (take c.scratch-for-index.result a.scratch.now) ≡ c.scratch-for-index.result
 slots_long c = length-take-le c.scratch-for-index.result (start c).args.scratch.now c.scratch-for-index.ensures.within
 
-word-ids : (c : tie.After-put-list) → let a = (begun c).args in (i : ℕ) → i < length a.ends.now → get_or a.ids.now i 0 < 2 ^ 32
-word-ids c i h = omega (arith, (sized (cleared (opened c))).before.before.before.shared-slice-known3.given i)
+word_ids : (c : tie.After-put-list) → let a = (begun c).args in (i : ℕ) → i < length a.ends.now → get_or a.ids.now i 0 < 2 ^ 32
+word_ids c i h = omega (arith, (sized (cleared (opened c))).before.before.before.shared-slice-known3.given i)
 
 -- the list is put
 leaves : (c : tie.After-put-list) → let a = (begun c).args in
@@ -63,7 +63,7 @@ put-list-requires c κs =
     record {
       list = s.pre;
       begun = begun_fresh a.mode a.repeats a.buf.now _ _ refl b.fresh_writer.ensures;
-      cleared = all-zero z.clear-words.last.0 i.scratch-for-index.result long z.clear-words.ensures.zero;
+      cleared = all_zero z.clear-words.last.0 i.scratch-for-index.result long z.clear-words.ensures.zero;
       enough = λ some. omega (arith, i.scratch-for-index.ensures.enough (omega (arith, some, long)), long);
     }
 
@@ -71,7 +71,7 @@ finish-list-requires : tie.Need-finish-list-requires
 finish-list-requires c κs =
     let p = c.before.before.before.before.before.before.before.before in
     let s = begun p in
-    record { closes = list_closes s.args.mode s.args.repeats s.pre (word-ids p) (leaves p) }
+    record { closes = list_closes s.args.mode s.args.repeats s.pre (word_ids p) (leaves p) }
 
 returns : tie.Need-returns
 returns c =
@@ -80,7 +80,7 @@ returns c =
     let s = begun p in
     let a = s.args in
     let cs = listed a.bytes.now a.ends.now a.ids.now in
-    list_built a.mode a.repeats s.pre (word-ids p) (leaves p) f.finish-list.ensures
+    list_built a.mode a.repeats s.pre (word_ids p) (leaves p) f.finish-list.ensures
     (p.put-list.ensures.answers
     ∙ ap (λ (x : CQDBWriter). answers_of x.mode x.repeats a.buf.now cs ++ drop (length a.ends.now) a.refusals.now)
     (opened p).fresh_writer.ensures)

@@ -26,7 +26,7 @@ pub record ListPre (buffer bytes ends ids refusals : List ℕ) : Type 0 where
   pub packed : invalid_ends (length bytes) 0 ends ≡ false
   pub ids_long : length ends ≤ length ids
   pub refusals_long : length ends ≤ length refusals
-  pub head-fits : head_size ≤ length buffer
+  pub head_fits : head_size ≤ length buffer
 
 -- the bytes from the size of an image of all names on are as they were
 abbrev pub KeptBehind : Mode → List ℕ → List ℕ → List ℕ → List ℕ → List ℕ → Type 0

@@ -70,7 +70,7 @@ pub record Bundles : Type 1 where
       → place_of_image file (j + d) ≡ refusal r
   -- the count is that of the positions that have an image; 10 exactly when some position gives 10
   pub counted : (file : List ℕ) (n : ℕ) → (counting file ≡ value n) ↔ HoldsImages file 0 n
-  pub not-counted : (file : List ℕ)
+  pub not_counted : (file : List ℕ)
       → (counting file ≡ refusal 10) ↔ ((k : ℕ) × (place_of_image file k ≡ refusal 10))
   -- appends
   pub accepts : (buf : List ℕ) (n : ℕ) (image : List ℕ) (m : ℕ) → appending buf n image ≡ value m
@@ -81,7 +81,7 @@ pub record Bundles : Type 1 where
   pub too_large : (image : List ℕ) → ((i : ℕ) → get_or image i 0 < 256) → 2 ^ 32 ≤ length image
       → unfit image ≡ true
   -- lists of appends: the file is the accepted images back to back, and position k has the k-th of them
-  pub back-to-back : (buf : List ℕ) (images : List (List ℕ))
+  pub back_to_back_lem : (buf : List ℕ) (images : List (List ℕ))
       → bytes (left buf images) ≡ back_to_back (accepted_images (empty_file buf) images)
   pub position : (buf : List ℕ) (images : List (List ℕ)) (k : ℕ)
       → image_at (bytes (left buf images)) k ≡ nth_image (accepted_images (empty_file buf) images) k

@@ -89,7 +89,7 @@ check-entries-requires c κs =
     let s = start e in
     record {
       area = s.pre.area;
-      back-words = omega (arith, s.pre.area.small, s.fits.n);
+      back_words_lem = omega (arith, s.pre.area.small, s.fits.n);
       tables = rows_held (image e) s.args.end s.pre.tables (omega (arith, s.pre.area.from)) (rows e);
       zeros = zeros 256;
     }

@@ -52,7 +52,7 @@ returns-3 c =
 returns-4 : tie.Need-returns-4
 returns-4 c =
     let offset = c.before.before in
-    refused (first offset.before.before) (λ k. c.if4.true (offset.size-or-zero3.ensures.is ∙ k.back-offset ∙ sym (wanted c.before)))
+    refused (first offset.before.before) (λ k. c.if4.true (offset.size-or-zero3.ensures.is ∙ k.back_offset_lem ∙ sym (wanted c.before)))
 
 check-body-requires : tie.Need-check-body-requires
 check-body-requires c κs =

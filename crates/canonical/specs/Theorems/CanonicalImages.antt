@@ -40,7 +40,7 @@ pub record CanonicalImage (img : List ℕ) : Type 0 where
 -- ---- the image of a list of calls, which may hold refused puts and closes, with either choice of 02 (viii)
 
 pub record CanonicalOfList (mode : Mode) (repeats : Repeats) (buffer : List ℕ) (cs : List Call) : Type 0 where
-  pub is-canonical : canonical (image_of mode repeats buffer cs) ≡ true
+  pub is_canonical : canonical (image_of mode repeats buffer cs) ≡ true
   -- the puts that are read back from it are the accepted ones, in their order
   pub read_back : puts_in (image_of mode repeats buffer cs) ≡ accepted_puts mode repeats buffer cs
   pub mode_back : mode_in (image_of mode repeats buffer cs) ≡ mode

@@ -40,10 +40,10 @@ pub record Demonstration : Type 0 where
   pub walk : (n : ℕ) (input : List ℕ) (m : ℕ) → head_size ≤ n
       → items (image Twoway (puts_of n input)) 0 m ≡ items_of (puts_of n input) 0 m
   -- 02 (viii): it begins without the repeats mode, so the second line of `0 A`, `1 A`, `2 B` is skipped
-  pub repeated-puts : puts_of 65536 repeated_lines ≡ entry_of (65 ∷ []) 0 ∷ entry_of (66 ∷ []) 2 ∷ []
+  pub repeated_puts : puts_of 65536 repeated_lines ≡ entry_of (65 ∷ []) 0 ∷ entry_of (66 ∷ []) 2 ∷ []
   -- from the example it prints the lines `3 2166` and `0 C`: its entries, its size, and the walk, which ends at the
   -- second step
   pub example_entries : length (puts_of 65536 example) ≡ 3
   pub example_size : size_of Twoway (puts_of 65536 example) ≡ 2166
-  pub example-walk : (m : ℕ)
+  pub example_walk : (m : ℕ)
       → items (image Twoway (puts_of 65536 example)) 0 (suc (suc m)) ≡ entry_of (67 ∷ []) 0 ∷ []

@@ -3,7 +3,7 @@ use Prim.Native.Nat.{◌-◌}
 use native.Mathlib.Omega.{arith}
 use mathlib.Core.Path.{◌≡◌, sym, ◌∙◌}
 use Rattle.changes.specs.Changes.{first_among, first_change}
-use Rattle.changes.proofs.Search.{ends_here, goes_on, ends_without, starts, answers_change, answers-none}
+use Rattle.changes.proofs.Search.{ends_here, goes_on, ends_without, starts, answers_change, answers_none}
 use borrow.Author.Rules.{rules}
 use Rattle.changes.proofs.next_change.Statement.{statement}
 use Rattle.changes.proofs.next_change.Tie as tie
@@ -27,7 +27,7 @@ returns : tie.Need-returns invariant_loop decreases_loop
 returns c =
     let s = c.before in
     let a = (start s).args in
-    answers-none a.old.now a.new.now a.from
+    answers_none a.old.now a.new.now a.from
     (sym (ends_without a.old.now a.new.now a.from _ c.if1.true)
     ∙ starts a.old.now a.new.now a.from _ s.upper.ensures)
 
@@ -67,7 +67,7 @@ returns-3 : tie.Need-returns-3 invariant_loop decreases_loop
 returns-3 c =
     let a = (start (bounded c.before)).args in
     let l = c.before.loop in
-    answers-none a.old.now a.new.now a.from
+    answers_none a.old.now a.new.now a.from
     (sym (ends_without a.old.now a.new.now l.id _ c.loop-test.false) ∙ l.invariant)
 
 pub next_change_spec : {M : Type 1} → statement M

@@ -3,7 +3,7 @@ use native.Mathlib.Omega.{arith}
 use mathlib.Core.Path.{sym, ap, ◌∙◌}
 use Rattle.reader.specs.Cases.{naming_of}
 use Rattle.reader.proofs.Namings.{named}
-use Rattle.consistency.proofs.MatchSearch.{home_by, not_home}
+use Rattle.consistency.proofs.MatchSearch.{home_by_lem, not_home}
 use borrow.Author.Rules.{rules}
 use Rattle.consistency.proofs.home.Statement.{statement}
 use Rattle.consistency.proofs.home.Tie as tie
@@ -28,7 +28,7 @@ returns c =
     let of-start = c.before.before.before.start in
     let of-to-str = c.before.before.before.before.before.to-str in
     c.has-match.ensures
-    ∙ home_by a.image.now a.id of-start.given.0.0 of-start.given.0.1.0 (ap naming_of (sym of-start.given.1) ∙ of-to-str.ensures)
+    ∙ home_by_lem a.image.now a.id of-start.given.0.0 of-start.given.0.1.0 (ap naming_of (sym of-start.given.1) ∙ of-to-str.ensures)
 
 returns-2 : tie.Need-returns-2
 returns-2 c =

@@ -6,7 +6,7 @@ use mathlib.Core.Bool.{Bool, cond}
 use mathlib.Core.List.{List}
 use lib.ListN.{length, take, length-take}
 use Rattle.jhash.specs.NameHash.{hash_of}
-use Rattle.jhash.proofs.Outcomes.{hash_or-zero_short}
+use Rattle.jhash.proofs.Outcomes.{hash_or_zero_short}
 use Rattle.image.specs.Image.{Entry}
 use Rattle.writer.specs.State.{State, state_with}
 use Rattle.writer.specs.Put.{entry_of}
@@ -69,7 +69,7 @@ begun c = start (early c).before
 
 -- h is the hash of the name
 hashed : (c : tie.After-search) → (begun c).args.h ≡ hash_of (E (begun c)).name
-hashed c = (begun c).requires ∙ hash_or-zero_short (E (begun c)).name (passed (early c)).short
+hashed c = (begun c).requires ∙ hash_or_zero_short (E (begun c)).name (passed (early c)).short
 
 -- what the search gives
 searched : (c : tie.After-search) → let s = begun c in

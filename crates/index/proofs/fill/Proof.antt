@@ -4,7 +4,7 @@ use native.Mathlib.Omega.{arith}
 use mathlib.Core.Path.{sym, subst}
 use Rattle.jhash.proofs.Outcomes.{result_refused, result_name_hash}
 use Rattle.image.proofs.Between.{entry_room}
-use Rattle.index.proofs.MakeIndex.{Filling, EntryRead, filling_start, not-broken, empty_slot, filling_turn, filling_end}
+use Rattle.index.proofs.MakeIndex.{Filling, EntryRead, filling_start, not_broken, empty_slot, filling_turn, filling_end}
 use borrow.Author.Rules.{rules}
 use Rattle.index.proofs.fill.Statement.{statement}
 use Rattle.index.proofs.fill.Tie as tie
@@ -60,7 +60,7 @@ returns : tie.Need-returns invariant_loop decreases_loop
 returns c =
     let n = c.before.whole_length in
     let t = c.before.before in
-    absurd (not-broken (begun t).requires t.before.loop.invariant t.loop-test.true n.result n.ensures.is c.if1.true)
+    absurd (not_broken (begun t).requires t.before.loop.invariant t.loop-test.true n.result n.ensures.is c.if1.true)
 
 name-at-requires : tie.Need-name-at-requires invariant_loop decreases_loop
 name-at-requires c κs =

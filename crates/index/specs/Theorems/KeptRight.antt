@@ -18,7 +18,7 @@ pub record KeptRight : Type 0 where
   pub fresh_right : (mode : Mode) (repeats : Repeats) (buffer words : List ℕ) → head_size ≤ length buffer
       → ((i : ℕ) → get_or words i 0 ≡ 0) → Right (fresh mode repeats buffer) words
   -- with repeats on, any words are a right index of it
-  pub fresh-any : (mode : Mode) (buffer words : List ℕ) → head_size ≤ length buffer → Right (fresh mode On buffer) words
+  pub fresh_any : (mode : Mode) (buffer words : List ℕ) → head_size ≤ length buffer → Right (fresh mode On buffer) words
   -- a close keeps it right
   pub close_right : (s : State) (words : List ℕ) → Bytes s
       → Right s words → Right (after_close s) words

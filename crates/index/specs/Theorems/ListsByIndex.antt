@@ -128,7 +128,7 @@ pub record RunByIndex (mode : Mode) (repeats : Repeats) (buffer words : List ℕ
   -- each step is answered as is due
   pub answered : rs ≡ due_indexed (slot_count words) mode repeats (length buffer) [] cs
   -- the list of demand 3 that it comes to has, by puts without an index, the same answers, and leaves the same
-  pub same-answers : answers_of mode repeats (plain_of buffer cs rs).buffer (plain_of buffer cs rs).calls
+  pub same_answers : answers_of mode repeats (plain_of buffer cs rs).buffer (plain_of buffer cs rs).calls
       ≡ (plain_of buffer cs rs).answers
   pub leaves : t ≡ after_list mode repeats (plain_of buffer cs rs).buffer (plain_of buffer cs rs).calls
   -- and the index is right

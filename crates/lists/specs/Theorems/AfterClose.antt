@@ -41,7 +41,7 @@ pub record ReadingAnswered (es : List Entry) (img : List ℕ) : Type 0 where
 
 pub record AfterClose (repeats : Repeats) (buffer : List ℕ) (cs : List Call) (size : ℕ) : Type 0 where
   -- the close accepts no put: the accepted puts so far are those of cs
-  pub same-puts : accepted_puts Twoway repeats buffer (cs ++ (close ∷ [])) ≡ accepted_puts Twoway repeats buffer cs
+  pub same_puts : accepted_puts Twoway repeats buffer (cs ++ (close ∷ [])) ≡ accepted_puts Twoway repeats buffer cs
   -- the buffer's first bytes as they stand, as many as this size, are the image that 01's rules give for them
   pub stands : take size (after_list Twoway repeats buffer (cs ++ (close ∷ []))).buffer
       ≡ image Twoway (accepted_puts Twoway repeats buffer cs)
@@ -51,7 +51,7 @@ pub record AfterClose (repeats : Repeats) (buffer : List ℕ) (cs : List Call) (
 
 -- for every list on a buffer of 2,072 bytes or more
 pub record CloseReadable : Type 0 where
-  pub after-close : (repeats : Repeats) (buffer : List ℕ) (cs : List Call) (size : ℕ) → head_size ≤ length buffer
+  pub after_close_lem : (repeats : Repeats) (buffer : List ℕ) (cs : List Call) (size : ℕ) → head_size ≤ length buffer
       → closing (after_list Twoway repeats buffer cs) ≡ value size
       → AfterClose repeats buffer cs size
   -- calls of which no put is accepted, so refused puts and further closes, change neither record nor buffer

@@ -26,7 +26,7 @@ pub record GrownList (mode : Mode) (repeats : Repeats) (buffer longer : List ℕ
   -- the longer buffer is not refused
   pub taken : grown_refusal (after_list mode repeats buffer cs).writer (length longer) ≡ 0
   -- the puts that were accepted are all accepted there
-  pub same-puts : accepted_puts mode repeats longer (put_all (accepted_puts mode repeats buffer cs))
+  pub same_puts : accepted_puts mode repeats longer (put_all (accepted_puts mode repeats buffer cs))
       ≡ accepted_puts mode repeats buffer cs
   -- and leave this record, these counts and these bytes
   pub same_state : moved_to longer (after_list mode repeats buffer cs)

@@ -18,7 +18,7 @@ pub record IdsUnanswered (img : List ℕ) : Type 0 where
   pub id_unnamed : (id : ℕ) → naming img id ≡ unnamed
   pub walk_ended : (id : ℕ) → step img id ≡ done
   pub none_hinted : (id : ℕ) → upper_hint img id ≡ 0
-  pub none-home : (id : ℕ) → home img id ≡ false
+  pub none_home : (id : ℕ) → home img id ≡ false
 
 pub record OneWayList (repeats : Repeats) (buffer : List ℕ) (cs : List Call) : Type 0 where
   pub calls : CallsAnswered Oneway repeats buffer cs

@@ -9,7 +9,7 @@ use Rattle.lists.specs.Calls.{Call, WordIds}
 use Rattle.lists.specs.Demand3.{image_of}
 
 pub record Readings : Type 0 where
-  pub two-way : (repeats : Repeats) (buffer : List ℕ) (cs : List Call) → head_size ≤ length buffer
+  pub two_way_lem : (repeats : Repeats) (buffer : List ℕ) (cs : List Call) → head_size ≤ length buffer
       → readings_agree (image_of Twoway repeats buffer cs) ≡ true
   pub one_way : (repeats : Repeats) (buffer : List ℕ) (cs : List Call) → head_size ≤ length buffer
       → WordIds Oneway cs

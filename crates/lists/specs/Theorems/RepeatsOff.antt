@@ -32,7 +32,7 @@ pub record ListOff (mode : Mode) (buffer : List ℕ) (cs : List Call) : Type 0 w
 pub record RepeatsOff : Type 0 where
   pub list_off : (mode : Mode) (buffer : List ℕ) (cs : List Call) → head_size ≤ length buffer → WordIds mode cs
       → ListOff mode buffer cs
-  pub same-image : (mode : Mode) (repeats₁ : Repeats) (buffer₁ : List ℕ) (cs₁ : List Call)
+  pub same_image : (mode : Mode) (repeats₁ : Repeats) (buffer₁ : List ℕ) (cs₁ : List Call)
       → (repeats₂ : Repeats) (buffer₂ : List ℕ) (cs₂ : List Call)
       → head_size ≤ length buffer₁ → head_size ≤ length buffer₂ → WordIds mode cs₁ → WordIds mode cs₂
       → accepted_puts mode repeats₁ buffer₁ cs₁ ≡ accepted_puts mode repeats₂ buffer₂ cs₂

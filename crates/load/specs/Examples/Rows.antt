@@ -22,7 +22,7 @@ abbrev pub first_name : List ℕ
 first_name = 80 ∷ 51 ∷ 67 ∷ 54 ∷ 69 ∷ 70 ∷ 51 ∷ 53 ∷ 70 ∷ []
 
 pub record Rows : Type 0 where
-  pub first-name : state_name (state_after 0 1) ≡ first_name
+  pub first_name_lem : state_name (state_after 0 1) ≡ first_name
   pub full : Takes (record { bytes = 157720; entries = 4096; size = 157720 })
   pub one_short : Takes (record { bytes = 157719; entries = 4095; size = 157682 })
   pub empty : Takes (record { bytes = 2072; entries = 0; size = 2072 })

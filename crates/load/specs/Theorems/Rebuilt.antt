@@ -38,7 +38,7 @@ pub record LoadHolds (seed : ℕ) (buffer : List ℕ) (k : ℕ) : Type 0 where
   -- it is a list of calls as in demand 3, the puts of the first k entries, all accepted, and a close; so all of
   -- demand 3 holds of it
   pub listed : load_put seed buffer ≡ after_list Twoway On buffer (first_puts seed k)
-  pub all-accepted : accepted_puts Twoway On buffer (first_puts seed k) ≡ first_entries seed k
+  pub all_accepted : accepted_puts Twoway On buffer (first_puts seed k) ≡ first_entries seed k
   pub demand3 : OneList On buffer (first_puts seed k)
   pub closes : closing (load_put seed buffer) ≡ value (head_size + 38 * k)
   pub imaged : take (head_size + 38 * k) (after_load seed buffer) ≡ image_of Twoway On buffer (first_puts seed k)

@@ -6,7 +6,7 @@ use lib.Dec.{eqb}
 use borrow.Author.Tests.{not-true, not-false}
 use Rattle.image.specs.Steps.Contracts.{NameAtPre}
 use Rattle.canonical.proofs.EntriesAhead.{Ahead, turn, inside}
-use Rattle.one_to_one.proofs.Walking.{First, Step, walk_starts, walk_ends, other_id, other_name, walk-on}
+use Rattle.one_to_one.proofs.Walking.{First, Step, walk_starts, walk_ends, other_id, other_name, walk_on}
 use borrow.Author.Rules.{rules}
 use Rattle.one_to_one.proofs.first_failure.Statement.{statement}
 use Rattle.one_to_one.proofs.first_failure.Tie as tie
@@ -85,7 +85,7 @@ loop-again : tie.Need-loop-preserved invariant_loop decreases_loop
 loop-again c =
     let f = c.before.before.before in
     let flag = (entered f).before.before.word-or-zero in
-    walk-on (step f) (not-false _ c.before.before.if1.false) (ap (λ (k : ℕ). eqb k 0) flag.ensures)
+    walk_on (step f) (not-false _ c.before.before.if1.false) (ap (λ (k : ℕ). eqb k 0) flag.ensures)
     c.before.gives-name.ensures (not-false _ c.if2.false)
 
 returns-3 : tie.Need-returns-3 invariant_loop decreases_loop

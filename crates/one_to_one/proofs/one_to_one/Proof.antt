@@ -13,11 +13,11 @@ abbrev start : tie.Else1 → tie.Start
 start c = c.before.before.before
 
 own : (c : tie.Else1) → canonical (start c).args.image.now ≡ true
-own c = let q = c.before.is-canonical in sym q.ensures ∙ not-false q.result c.if1.false
+own c = let q = c.before.is_canonical in sym q.ensures ∙ not-false q.result c.if1.false
 
 returns : tie.Need-returns
 returns c =
-    let q = c.before.is-canonical in
+    let q = c.before.is_canonical in
     sym (refused c.before.before.before.args.image.now (sym q.ensures ∙ not-true q.result c.if1.true))
 
 first-failure-requires : tie.Need-first-failure-requires

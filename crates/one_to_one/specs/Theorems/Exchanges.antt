@@ -34,7 +34,7 @@ BothFound old new = (i j : ℕ) → Exchanged old new i j → (moved old new i �
 
 pub record ExchangesFound : Type 0 where
   -- where the new image is one to one
-  pub one-to-one : (old new : List ℕ) → AllBytes new → one_to_one new ≡ value none → BothFound old new
+  pub one_to_one_lem : (old new : List ℕ) → AllBytes new → one_to_one new ≡ value none → BothFound old new
   -- where its puts give no name two ids: an id may have been given another name
   pub one_id : (old new : List ℕ) → AllBytes new → canonical new ≡ true → OneId (puts_in new) → BothFound old new
   -- so in the image of every list of calls with repeats off

@@ -1,4 +1,4 @@
--- What is proved of one to one (`one-to-one` in proofs/Theorem).
+-- What is proved of one to one (`one_to_one_lem` in proofs/Theorem).
 use Rattle.std.specs.Prelude.{ℕ, ◌+◌, ◌≤◌, ◌≡◌, ◌↔◌, ◌⊎◌, true, false, List, [], ◌∷◌, ◌++◌, length}
 use Rattle.std.proofs.Math.Option.{none, some}
 use Rattle.jhash.specs.Outcome.{value, refusal}
@@ -31,7 +31,7 @@ pub record FindsOther (img : List ℕ) (e : Entry) : Type 0 where
 -- kind 2: its id gives another name
 pub record GivesOther (img : List ℕ) (e : Entry) : Type 0 where
   pub finds : found_id (lookup img e.name) ≡ some e.id
-  pub two-way : mode_in img ≡ Twoway
+  pub two_way_lem : mode_in img ≡ Twoway
   pub other : List ℕ
   pub given : name_given img e.id ≡ some other
   pub another : ¬ (other ≡ e.name)
@@ -78,7 +78,7 @@ OneName es = Each (λ (e : Entry). Each (SameName e) es) es
 pub record OneToOneOfList (mode : Mode) (es : List Entry) (img : List ℕ) : Type 0 where
   pub yes_exactly : (one_to_one img ≡ value none) ↔ (OneId es × (mode ≡ Twoway → OneName es))
   -- the whole answer follows from the accepted puts
-  pub by-puts : one_to_one img ≡ value (first_failure (kind_among mode es) head_size es)
+  pub by_puts_lem : one_to_one img ≡ value (first_failure (kind_among mode es) head_size es)
   pub inverse : mode ≡ Twoway → one_to_one img ≡ value none → Inverse img
 
 pub record OneToOneHolds : Type 0 where

@@ -67,7 +67,7 @@ use Rattle.order.specs.contracts.keeps as keeps
 use Rattle.order.proofs.keeps.Symbol as keeps-def
 use Rattle.order.proofs.keeps.Symbol.{name as #order·keeps}
 use Rattle.order.proofs.keeps.Met as keeps-thm
-use Rattle.order.specs.contracts.references_first.Key.{name as #order·references-first}
+use Rattle.order.specs.contracts.references_first.Key.{name as #order·references_first}
 use Rattle.order.specs.contracts.references_first as this
 use Rattle.order.proofs.references_first.Statement as stated
 use Rattle.order.proofs.references_first.Code as code
@@ -387,6 +387,6 @@ pub references_first_spec : {M : Type 1} → stated.statement M
 unfolding code.routine tables_of
 references_first_spec 𝓤 𝓛 𝓜 𝓡 =
     entered 𝓤 𝓛.H (triple_of 𝓛 this.signature (this.spec 𝓛 𝓜.mem 𝓡.run))
-    (tables 𝓤 𝓛.H 𝓜 𝓡 code.env).C (tables 𝓤 𝓛.H 𝓜 𝓡 code.env).Λ #order·references-first code.function (code.unfolded 𝓤 𝓛.H 𝓜 𝓡)
+    (tables 𝓤 𝓛.H 𝓜 𝓡 code.env).C (tables 𝓤 𝓛.H 𝓜 𝓡 code.env).Λ #order·references_first code.function (code.unfolded 𝓤 𝓛.H 𝓜 𝓡)
     (meets 𝓛 𝓜.mem 𝓡.run (tables_of 𝓤 𝓛.H 𝓜 (tables 𝓤 𝓛.H 𝓜 𝓡 code.env))
     (cited 𝓤 𝓛.H (Keeps 𝓛 𝓜.mem 𝓡.run) 𝓜 𝓡 code.env #order·keeps keeps-def.routine code.calls-order::keeps (keeps-thm.met 𝓤 𝓛 𝓜 𝓡)))

@@ -1,4 +1,4 @@
--- What is proved of the rule (`references-first` in proofs/Theorem): the sentences of 02 (xii), and what a caller
+-- What is proved of the rule (`references_first` in proofs/Theorem): the sentences of 02 (xii), and what a caller
 -- asks next. For all pairs and rounds.
 use Rattle.std.specs.Prelude.{ℕ, ◌≡◌, ◌↔◌, true, false, List, [], ◌∷◌, ◌++◌}
 use Rattle.order.specs.Rule.{kept, all_kept, fails_at, ordered}

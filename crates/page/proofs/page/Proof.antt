@@ -1,7 +1,7 @@
 -- `page::page` meets its contract. Assumes nothing.
 use borrow.Author.Rules.{rules}
 use Rattle.page.specs.Call.{printed_of}
-use Rattle.page.proofs.Pages.{whole-page}
+use Rattle.page.proofs.Pages.{whole_page}
 use Rattle.page.proofs.page.Statement.{statement}
 use Rattle.page.proofs.page.Tie as tie
 
@@ -10,7 +10,7 @@ returns c =
     let printed = c.before.before in
     let hint = printed.before.before in
     let a = hint.before.before.before.args in
-    whole-page a.image.now a.out.now printed.print-front.new.0 hint.size-hint.result
+    whole_page a.image.now a.out.now printed.print-front.new.0 hint.size-hint.result
     (printed_of printed.print-front.result) hint.size-hint.ensures printed.print-front.ensures
 
 pub page_spec : {M : Type 1} → statement M

@@ -19,14 +19,14 @@ read_from v (b ∷ bs) = read_from (cond (eqb b 32) v (v * 10 + (b - 48))) bs
 
 pub record PrintedPage : Type 0 where
   -- "a line of 45 bytes", the last of which is a line feed and the others 32 to 126
-  pub line-length : (name : ℕ → Option (List ℕ)) (id : ℕ) → length (line name id) ≡ 45
+  pub line_length : (name : ℕ → Option (List ℕ)) (id : ℕ) → length (line name id) ≡ 45
   pub line_ends : (name : ℕ → Option (List ℕ)) (id : ℕ) → get_or (line name id) 44 0 ≡ 10
   pub line_plain : (name : ℕ → Option (List ℕ)) (id i : ℕ) → i < 44 → Plain (get_or (line name id) i 0)
   -- the number on an id's line, its first 10 bytes, reads back as the id: all 10 digits
   pub number_reads : (name : ℕ → Option (List ℕ)) (id : ℕ) → id < 10 ^ 10
       → read_from 0 (take 10 (line name id)) ≡ id
   -- "its length is 45 × back size": the line of each id below back size begins at 45 × id
-  pub page-length : (image : List ℕ) → length (page_of image) ≡ page_length image
+  pub page_length_lem : (image : List ℕ) → length (page_of image) ≡ page_length image
   pub line_stands : (image : List ℕ) (id : ℕ) → id < upper_hint image 0
       → take 45 (drop (45 * id) (page_of image)) ≡ line (name_given image) id
   -- every printed byte is 32 to 126 or the line feed

@@ -18,12 +18,12 @@ asked c = c.before.before
 abbrev compared : tie.After-first-renamed → tie.After-some-kept
 compared c = c.before.before
 
-abbrev none-renamed : tie.After-first-taken → tie.After-first-renamed
-none-renamed c = c.before.before.before
+abbrev none_renamed : tie.After-first-taken → tie.After-first-renamed
+none_renamed c = c.before.before.before
 
 whole : (c : tie.After-some-kept) → is_whole (start (asked c)).args.old.now ≡ true
 whole c =
-    let w = (asked c).is-whole in
+    let w = (asked c).is_whole in
     sym w.ensures ∙ not-false w.result c.before.if1.false
 
 alike : (c : tie.After-first-renamed) → let a = (start (asked (compared c))).args in some_kept_in a.old.now a.new.now ≡ true
@@ -33,7 +33,7 @@ alike c =
 
 returns : tie.Need-returns
 returns c =
-    let w = c.before.is-whole in
+    let w = c.before.is_whole in
     let a = (start c.before).args in
     changes_refused a.old.now a.new.now a.round.now a.accepted.now (sym w.ensures ∙ not-true w.result c.if1.true)
 
@@ -54,7 +54,7 @@ returns-3 c =
 returns-4 : tie.Need-returns-4
 returns-4 c =
     let e = c.before.before.before in
-    let d = none-renamed e in
+    let d = none_renamed e in
     let a = (start (asked (compared d))).args in
     changes_taken a.old.now a.new.now a.round.now a.accepted.now (whole (compared d)) (alike d) _
     (sym e.before.enum_told.given.1 ∙ d.first-renamed.ensures)
@@ -63,7 +63,7 @@ returns-4 c =
 returns-5 : tie.Need-returns-5
 returns-5 c =
     let e = c.before.before in
-    let d = none-renamed e in
+    let d = none_renamed e in
     let a = (start (asked (compared d))).args in
     changes_taken a.old.now a.new.now a.round.now a.accepted.now (whole (compared d)) (alike d) _
     (sym e.before.enum_told.given.1 ∙ d.first-renamed.ensures)

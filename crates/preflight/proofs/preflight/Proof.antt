@@ -6,7 +6,7 @@ use borrow.Author.Tests.{not-true, not-false}
 use Rattle.reader.specs.Naming.{name_given}
 use Rattle.sheet.specs.SheetReading.{read_lists}
 use Rattle.preflight.specs.Counts.{names, compared_in, added_in, unsighted_in}
-use Rattle.preflight.proofs.Answers.{answer-no, answer-yes}
+use Rattle.preflight.proofs.Answers.{answer_no, answer_yes}
 use Rattle.preflight.proofs.Yes.{yes_only}
 use Rattle.preflight.proofs.Alone.{sheet_yes}
 use Rattle.preflight.proofs.Changed.{alone_yes}
@@ -22,7 +22,7 @@ returns c =
     let y = c.before.is-yes in
     let d = c.before.before in
     let a = (start d).args in
-    answer-no _ _ d.verdict-all.ensures (compared_in (name_given a.old.now) a.round.now)
+    answer_no _ _ d.verdict-all.ensures (compared_in (name_given a.old.now) a.round.now)
     (added_in (name_given a.old.now) a.round.now) (unsighted_in (read_lists a.sheet.now) a.round.now)
     (sym y.ensures ∙ not-true y.result c.if1.true)
 
@@ -43,7 +43,7 @@ returns-2 c =
     let y = c.before.before.before.is-yes in
     let d = c.before.before.before.before in
     let a = (start d).args in
-    answer-yes _ _ d.verdict-all.ensures _ _ _ _ _ _ (sym y.ensures ∙ not-false y.result c.before.before.if1.false)
+    answer_yes _ _ d.verdict-all.ensures _ _ _ _ _ _ (sym y.ensures ∙ not-false y.result c.before.before.if1.false)
     n.ensures.is (added_so (names (name_given a.old.now)) a.round.now _ n.ensures) c.unsighted.ensures
 
 pub preflight_spec : {M : Type 1} → statement M

@@ -4,7 +4,7 @@ use borrow.Author.Rules.{rules}
 use borrow.Author.Tests.{not-true, not-false}
 use Rattle.sheet.specs.SheetReading.{read_lists}
 use Rattle.preflight.specs.Counts.{unsighted_in}
-use Rattle.preflight.proofs.Answers.{answer-no, answer-yes}
+use Rattle.preflight.proofs.Answers.{answer_no, answer_yes}
 use Rattle.preflight.proofs.Yes.{yes_only}
 use Rattle.preflight.proofs.Alone.{sheet_yes}
 use Rattle.preflight.proofs.preflight_first.Statement.{statement}
@@ -18,7 +18,7 @@ returns c =
     let y = c.before.is-yes in
     let d = c.before.before in
     let a = (start d).args in
-    answer-no _ _ d.verdict-first.ensures 0 0 (unsighted_in (read_lists a.sheet.now) a.round.now)
+    answer_no _ _ d.verdict-first.ensures 0 0 (unsighted_in (read_lists a.sheet.now) a.round.now)
     (sym y.ensures ∙ not-true y.result c.if1.true)
 
 unsighted-requires : tie.Need-unsighted-requires
@@ -33,7 +33,7 @@ returns-2 : tie.Need-returns-2
 returns-2 c =
     let y = c.before.before.is-yes in
     let d = c.before.before.before in
-    answer-yes _ _ d.verdict-first.ensures 0 0 0 0 _ _ (sym y.ensures ∙ not-false y.result c.before.if1.false) refl refl
+    answer_yes _ _ d.verdict-first.ensures 0 0 0 0 _ _ (sym y.ensures ∙ not-false y.result c.before.if1.false) refl refl
     c.unsighted.ensures
 
 pub preflight_first_spec : {M : Type 1} → statement M

@@ -16,12 +16,12 @@ asked c = c.before.before
 
 whole : (c : tie.After-of-sheet) → is_whole (start (asked c)).args.new.now ≡ true
 whole c =
-    let w = (asked c).is-whole in
+    let w = (asked c).is_whole in
     sym w.ensures ∙ not-false w.result c.before.if1.false
 
 returns : tie.Need-returns
 returns c =
-    let w = c.before.is-whole in
+    let w = c.before.is_whole in
     let a = (start c.before).args in
     first_refused a.new.now a.sheet.now a.round.now (sym w.ensures ∙ not-true w.result c.if1.true)
 

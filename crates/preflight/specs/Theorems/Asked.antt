@@ -16,8 +16,8 @@ In id (x ∷ xs) = (x ≡ id) ⊎ In id xs
 
 -- 1, 7
 pub record Whole (image : List ℕ) : Type 0 where
-  pub is-canonical : canonical image ≡ true
-  pub two-way : mode_in image ≡ Twoway
+  pub is_canonical : canonical image ≡ true
+  pub two_way_lem : mode_in image ≡ Twoway
 
 -- 2, 3: the sheet reads, and each id of the round is on it once, as a reference or a wall prism
 pub record OnSheet (sheet round : List ℕ) : Type 0 where
@@ -55,16 +55,16 @@ NotTaken old new round = (i j : ℕ) (name : List ℕ) → In i round
 
 -- 1 to 6
 pub record MayLeaveFirst (new sheet round : List ℕ) : Type 0 where
-  pub new-whole : Whole new
+  pub new_whole : Whole new
   pub on_sheet : OnSheet sheet round
   pub round_named : RoundNamed new round
 
 -- 1 to 10
 pub record MayLeave (old new sheet round accepted : List ℕ) : Type 0 where
   pub alone : MayLeaveFirst new sheet round
-  pub old-whole : Whole old
+  pub old_whole : Whole old
   pub some_alike : SomeAlike old new
-  pub not-renamed : NotRenamed old new round accepted
+  pub not_renamed : NotRenamed old new round accepted
   pub not_taken : NotTaken old new round
 
 -- the ids i and j have exchanged names

@@ -21,7 +21,7 @@ pub record DatesAccepted (windows : List Window) (last date : Date) : Type 0 whe
   pub last_exists : is_date last ≡ true
   pub date_exists : is_date date ≡ true
   pub no_invalid : some_window invalid_dates windows ≡ false
-  pub none-inverted : some_window inverted windows ≡ false
+  pub none_inverted : some_window inverted windows ≡ false
 
 pub record DatesHeld : Type 0 where
   -- yes exactly where nothing is refused and each id of the round has one window that holds both dates

@@ -10,11 +10,11 @@ use Rattle.reader.specs.Cases.{reads}
 pub record Bounds : Type 0 where
   -- a search reads at most n buckets, where n is the number of buckets of its table, and so does a lookup
   pub search_reads : (image name : List ℕ) (h o n : ℕ) → reads (search_table image name h o n) ≤ n
-  pub lookup-reads : (image name : List ℕ)
+  pub lookup_reads : (image name : List ℕ)
       → reads (lookup image name) ≤ bucket_number image (table_of (hash_of name))
   -- none: in an image under 2,072 bytes, for a name of 4,294,967,295 bytes or more, in a table with offset 0, bucket
   -- number 0 or an end past the image
-  pub lookup-unsearched : (image name : List ℕ)
+  pub lookup_unsearched : (image name : List ℕ)
       → (nat_lt (length image) head_size || nat_le 4294967295 (length name) || unsearched image (table_of (hash_of name)))
       ≡ true
       → lookup image name ≡ nothing 0

@@ -16,7 +16,7 @@ bucket_read name n m = slice_index (probe_sequence n n (start (hash_of name) n))
 -- what a lookup found in the table of n buckets at offset o
 pub record FoundInTable (image name : List ℕ) (f : Found) (o n : ℕ) : Type 0 where
   -- the deciding bucket, the last that was read, is one of the table's, and the table lies in the image
-  pub in-table : bucket_read name n f.buckets < n
+  pub in_table : bucket_read name n f.buckets < n
   pub inside : o + 8 * n ≤ length image
   -- it has the name's hash, and this offset
   pub hash : word image (o + 8 * bucket_read name n f.buckets) ≡ hash_of name

@@ -10,10 +10,10 @@ abbrev start : tie.After-first-refusal → tie.Start
 start c = c.before.before.before.before
 
 asked : (c : tie.After-first-refusal)
-    → Asked (start c).args.image.now c.before.before.entry-count.result c.before.is-canonical.result c.first-refusal.result
+    → Asked (start c).args.image.now c.before.before.entry-count.result c.before.is_canonical.result c.first-refusal.result
 asked c = record {
   number = c.before.before.entry-count.ensures;
-  canonical_is = c.before.is-canonical.ensures;
+  canonical_is = c.before.is_canonical.ensures;
   first_is = c.first-refusal.ensures;
 }
 

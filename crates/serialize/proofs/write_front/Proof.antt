@@ -9,7 +9,7 @@ cast-write-head-3 : tie.Need-overflow-cast-write-head-3
 cast-write-head-3 c =
     let start = c.before.before.before.before.before.before in
     let a = start.args in
-    omega (arith, c.before.before.back-offset.ensures, back_offset_le a.mode a.end a.entries a.back, start.requires.fits_word)
+    omega (arith, c.before.before.back_offset_lem.ensures, back_offset_le a.mode a.end a.entries a.back, start.requires.fits_word)
 
 write-rows-requires : tie.Need-write-rows-requires
 write-rows-requires c κs =
@@ -26,7 +26,7 @@ returns c =
     let of-write-rows = rows.write-rows in
     let of-write-head = head.write-head in
     let of-flag-word = head.before.flag_word in
-    let of-back-at = head.before.before.before.back-offset in
+    let of-back-at = head.before.before.before.back_offset_lem in
     let of-back-in = head.before.before.before.before.back_in in
     let of-finished-size = sized.finished-size in
     record {

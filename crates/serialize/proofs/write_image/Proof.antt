@@ -22,17 +22,17 @@ bytes c i = omega (arith, (begun c).before.before.before.slice-known.given i)
 
 -- entries end in the image, and the image in the buffer
 room : (c : tie.After-back-offset)
-    → FillAllPre c.back-offset.result (start c).args.end c.before.finished-size.result (begun c).begin-image.new.1.1.1.1.1.0
+    → FillAllPre c.back_offset_lem.result (start c).args.end c.before.finished-size.result (begun c).begin-image.new.1.1.1.1.1.0
 room c =
     let pre = (start c).requires in
     let a = (start c).args in
     let size = c.before.finished-size.ensures in
     record {
-      low = pre.after-head;
+      low = pre.after_head;
       within = omega (arith, size);
       inside = omega (arith, size, pre.fits_buffer, (begun c).begin-image.auto.1.1.1.1.1.0);
       size_word = omega (arith, size, pre.fits_word);
-      back_word = omega (arith, c.back-offset.ensures, back_offset_le a.mode a.end a.entries a.back, pre.fits_word);
+      back_word = omega (arith, c.back_offset_lem.ensures, back_offset_le a.mode a.end a.entries a.back, pre.fits_word);
     }
 
 -- ---- the needs
@@ -42,7 +42,7 @@ returns c =
     let b = c.before.before.before.before.before.before in
     let a = (start b).args in
     written_singly a.mode a.end a.entries a.back a.counts.now a.buf.now (bytes b) (start b).requires
-    b.before.finished-size.ensures b.back-offset.ensures (begun b).begin-image.ensures.image c.before.before.insert-singly.ensures
+    b.before.finished-size.ensures b.back_offset_lem.ensures (begun b).begin-image.ensures.image c.before.before.insert-singly.ensures
 
 partition-entries-requires : tie.Need-partition-entries-requires
 partition-entries-requires c κs =
@@ -67,7 +67,7 @@ returns-2 c =
     let b = p.before.before.before.before.before in
     let a = (start b).args in
     written_by_tables a.mode a.end a.entries a.back a.counts.now a.buf.now (bytes b) (start b).requires
-    b.before.finished-size.ensures b.back-offset.ensures (begun b).begin-image.ensures.image (begun b).begin-image.ensures.begins
+    b.before.finished-size.ensures b.back_offset_lem.ensures (begun b).begin-image.ensures.image (begun b).begin-image.ensures.begins
     p.partition-entries.ensures c.before.before.before.fill-all.ensures
 
 pub write_image_spec : {M : Type 1} → statement M

@@ -9,12 +9,12 @@ use Rattle.serialize.specs.Record.{finished_of, none_above}
 use Rattle.serialize.specs.Steps.Partition.{table_offsets_from}
 
 -- the rows of the m tables from t on, of which the first with entries begins at o
-unfoldable pub rows_from : List ℕ → ℕ → ℕ → ℕ → List ℕ
-rows_from counts o t zero = []
-rows_from counts o t (suc m) =
+unfoldable pub rows_from_lem : List ℕ → ℕ → ℕ → ℕ → List ℕ
+rows_from_lem counts o t zero = []
+rows_from_lem counts o t (suc m) =
     le32 (cond (slice_index counts t == 0) 0 o)
     ++ le32 (2 * slice_index counts t)
-    ++ rows_from counts (o + 16 * slice_index counts t) (suc t) m
+    ++ rows_from_lem counts (o + 16 * slice_index counts t) (suc t) m
 
 -- where the back array begins, 0 where there is none
 unfoldable pub back_offset_of : Mode → ℕ → ℕ → ℕ → ℕ
@@ -25,7 +25,7 @@ unfoldable pub headed : Mode → ℕ → ℕ → ℕ → List ℕ → List ℕ �
 headed mode end entries back counts buf =
     let size = finished_of mode end entries back in
     let head = head_bytes size (flag_word mode) (back_in mode back) (back_offset_of mode end entries back) in
-    sets (sets buf 0 head) 24 (rows_from counts end 0 256)
+    sets (sets buf 0 head) 24 (rows_from_lem counts end 0 256)
 
 -- zeros from one place to another
 unfoldable pub zeroed : List ℕ → ℕ → ℕ → List ℕ
@@ -33,7 +33,7 @@ zeroed buf from to = sets buf from (replicate (to - from) 0)
 
 -- rows, and where the tables begin
 pub record RowsWritten (counts : List ℕ) (end : ℕ) (buf places buf' places' : List ℕ) : Type 0 where
-  pub rows : buf' ≡ sets buf 24 (rows_from counts end 0 256)
+  pub rows : buf' ≡ sets buf 24 (rows_from_lem counts end 0 256)
   pub begins : places' ≡ sets places 0 (table_offsets_from counts end 0 256)
 
 -- the image lies in the buffer
@@ -60,9 +60,9 @@ abbrev pub by_tables : List ℕ → ℕ → Bool
 by_tables counts entries = nat_le 1024 entries && none_above counts 4608
 
 -- the entries end in the image, and the image in the buffer
-pub record FillAllPre (back-offset end size : ℕ) (buf : List ℕ) : Type 0 where
+pub record FillAllPre (back_offset_lem end size : ℕ) (buf : List ℕ) : Type 0 where
   pub low : 2072 ≤ end
   pub within : end ≤ size
   pub inside : size ≤ length buf
   pub size_word : size < 4294967296
-  pub back_word : back-offset < 4294967296
+  pub back_word : back_offset_lem < 4294967296

@@ -2,7 +2,7 @@
 use mathlib.Core.Path.{sym, ◌∙◌}
 use borrow.Author.Tests.{not-true, not-false}
 use Rattle.reader.specs.Slices.{slice}
-use Rattle.validity.proofs.WindowTests.{no-date_part, by_state_part}
+use Rattle.validity.proofs.WindowTests.{no_date_part, by_state_part}
 use borrow.Author.Rules.{rules}
 use Rattle.validity.proofs.part_by_state.Statement.{statement}
 use Rattle.validity.proofs.part_by_state.Tie as tie
@@ -14,7 +14,7 @@ use Rattle.validity.proofs.calendar.is_date.Reads as is-date-reads
 returns : tie.Need-returns
 returns c =
     let a = c.before.before.before.before.args in
-    no-date_part (slice a.image) a.id a.date a.s (sym c.before.before.is-date.ensures ∙ not-true _ c.before.if1.true)
+    no_date_part (slice a.image) a.id a.date a.s (sym c.before.before.is-date.ensures ∙ not-true _ c.before.if1.true)
 
 returns-2 : tie.Need-returns-2
 returns-2 c =

@@ -3,7 +3,7 @@ use mathlib.Core.Path.{sym, ap, ◌∙◌}
 use borrow.Author.Tests.{not-true, not-false}
 use Rattle.jhash.specs.Outcome.{value}
 use Rattle.reader.specs.Cases.{naming_of}
-use Rattle.validity.proofs.WindowTests.{no-date, by_state}
+use Rattle.validity.proofs.WindowTests.{no_date, by_state}
 use borrow.Author.Rules.{rules}
 use Rattle.validity.proofs.place_by_state.Statement.{statement}
 use Rattle.validity.proofs.place_by_state.Tie as tie
@@ -15,7 +15,7 @@ use Rattle.validity.proofs.calendar.is_date.Reads as is-date-reads
 returns : tie.Need-returns
 returns c =
     let a = c.before.before.before.args in
-    no-date a.image.now a.id a.date a.s (sym c.before.is-date.ensures ∙ not-true _ c.if1.true)
+    no_date a.image.now a.id a.date a.s (sym c.before.is-date.ensures ∙ not-true _ c.if1.true)
 
 returns-2 : tie.Need-returns-2
 returns-2 c =

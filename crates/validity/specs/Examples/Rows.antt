@@ -85,11 +85,11 @@ june = window 5 (date 2024 6 1) (date 2024 7 1)
 abbrev swapped : Window
 swapped = window 6 (date 2024 6 1) (date 2024 3 1)
 
-abbrev zero-days : Window
-zero-days = window 5 (date 2024 3 1) (date 2024 3 1)
+abbrev zero_days : Window
+zero_days = window 5 (date 2024 3 1) (date 2024 3 1)
 
-abbrev no-day : Window
-no-day = window 6 (date 2023 2 29) (date 2024 3 1)
+abbrev no_day : Window
+no_day = window 6 (date 2023 2 29) (date 2024 3 1)
 
 abbrev pub season_rows : List SeasonRow
 season_rows =
@@ -108,12 +108,12 @@ season_rows =
     -- stands in front
     ∷ row quay (date 2024 2 30) [] (refusal 22)
     ∷ row quay (date 2200 1 1) (spring ∷ []) (refusal 22)
-    ∷ row quay (date 2024 4 1) (spring ∷ no-day ∷ []) (refusal 22)
-    ∷ row unnamed (date 2024 4 1) (no-day ∷ []) (refusal 22)
-    ∷ row quay (date 2024 4 1) (swapped ∷ no-day ∷ []) (refusal 22)
+    ∷ row quay (date 2024 4 1) (spring ∷ no_day ∷ []) (refusal 22)
+    ∷ row unnamed (date 2024 4 1) (no_day ∷ []) (refusal 22)
+    ∷ row quay (date 2024 4 1) (swapped ∷ no_day ∷ []) (refusal 22)
     -- 23 for a window that does not start before its end, also of another id and behind one that holds the date
     ∷ row quay (date 2024 4 1) (swapped ∷ []) (refusal 23)
-    ∷ row quay (date 2024 4 1) (zero-days ∷ []) (refusal 23)
+    ∷ row quay (date 2024 4 1) (zero_days ∷ []) (refusal 23)
     ∷ row quay (date 2024 4 1) (spring ∷ swapped ∷ []) (refusal 23)
     -- the bounds: the last day, and 1 January 2200 as end date and as first date
     ∷ row quay (date 2199 12 31) (window 5 (date 1900 1 1) (date 2200 1 1) ∷ []) (value quay)

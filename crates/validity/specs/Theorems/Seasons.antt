@@ -31,7 +31,7 @@ pub record Seasons : Type 0 where
   pub transitive : (a b c : Date) → earlier a b ≡ true → earlier b c ≡ true → earlier a c ≡ true
   pub total : (a b : Date) → (earlier a b ≡ true) ⊎ ((a ≡ b) ⊎ (earlier b a ≡ true))
   -- "some window": one that stands in the list
-  pub some-window : (test : Window → Bool) (windows : List Window)
+  pub some_window_lem : (test : Window → Bool) (windows : List Window)
       → (some_window test windows ≡ true) ↔ SomeAt test windows
   -- a "window of that id holds the date": the first date included, "the end date not included"
   pub holds_exactly : (id : ℕ) (date : Date) (w : Window)

@@ -5,7 +5,7 @@ use mathlib.Core.Bool.{true}
 use borrow.Author.Tests.{not-true, not-false}
 use Rattle.writer.specs.State.{State, state_with, fits, too_large, finished_size}
 use Rattle.writer.proofs.Fits.{fitting, end_inside}
-use Rattle.writer.proofs.Closes.{due-unfit, due_big, due-differs, due-none}
+use Rattle.writer.proofs.Closes.{due_unfit, due_big, due_differs, due_none}
 use borrow.Author.Rules.{rules}
 use Rattle.writer.proofs.close_refusal.Statement.{statement}
 use Rattle.writer.proofs.close_refusal.Tie as tie
@@ -37,13 +37,13 @@ agrees-requires c κs =
 
 returns-3 : tie.Need-returns-3
 returns-3 c =
-    let f = c.before.before.before.before.before in due-differs (state (start f)) (fitted f)
+    let f = c.before.before.before.before.before in due_differs (state (start f)) (fitted f)
     (sym c.before.agrees.ensures ∙ not-true _ c.if3.true)
 
 returns-4 : tie.Need-returns-4
 returns-4 c =
     let f = c.before.before.before.before.before in
-    due-none (state (start f)) (fitted f) (sized c.before.before.before ∙ c.before.before.if2.false)
+    due_none (state (start f)) (fitted f) (sized c.before.before.before ∙ c.before.before.if2.false)
     (sym c.before.agrees.ensures ∙ not-false _ c.if3.false)
 
 pub close_refusal_spec : {M : Type 1} → statement M
@@ -51,7 +51,7 @@ close_refusal_spec =
     tie.close
     (tie.spec
     (λ c κs. search rules)
-    (λ c. due-unfit (state c.before.before.before) (sym c.before.fits2.ensures ∙ not-true _ c.if1.true))
+    (λ c. due_unfit (state c.before.before.before) (sym c.before.fits2.ensures ∙ not-true _ c.if1.true))
     finished-size-requires
     (λ c κs. search rules)
     (λ c. let f = c.before.before.before in due_big (state (start f)) (fitted f) (sized c.before ∙ c.if2.true))

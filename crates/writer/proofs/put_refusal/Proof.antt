@@ -37,8 +37,8 @@ zero_free c = sym c.before.has-zero.ensures ∙ c.if2.false
 abbrev walked : tie.Else3 → tie.Else2
 walked c = c.before.before
 
-none-due : (c : tie.Else3) → let s = start (unzeroed (walked c)) in earlier_refusal (state s) s.args.name.now ≡ 0
-none-due c = sym c.before.earlier-refusal.ensures ∙ c.if3.false
+none_due : (c : tie.Else3) → let s = start (unzeroed (walked c)) in earlier_refusal (state s) s.args.name.now ≡ 0
+none_due c = sym c.before.earlier-refusal.ensures ∙ c.if3.false
 
 returns : tie.Need-returns
 returns c = let s = c.before.before.before.before in refuses_unfit (state s) (entry s) (sym c.before.fits2.ensures ∙ not-true _ c.if1.true)
@@ -67,7 +67,7 @@ returns-4 c =
     let z = walked n in
     let f = unzeroed z in
     let a = (start f).args in
-    refuses_full (state (start f)) (entry (start f)) (fitted f) (zero_free z) (none-due n) (long_name a.w a.name.now a.id c.if4.true)
+    refuses_full (state (start f)) (entry (start f)) (fitted f) (zero_free z) (none_due n) (long_name a.w a.name.now a.id c.if4.true)
 
 size-with-requires : tie.Need-size-with-requires
 size-with-requires c κs =
@@ -88,7 +88,7 @@ returns-5 c =
     let n = c.before.before.before.before in
     let z = walked n in
     let f = unzeroed z in
-    refuses_full (state (start f)) (entry (start f)) (fitted f) (zero_free z) (none-due n) (sized c.before ∙ c.if5.true)
+    refuses_full (state (start f)) (entry (start f)) (fitted f) (zero_free z) (none_due n) (sized c.before ∙ c.if5.true)
 
 returns-6 : tie.Need-returns-6
 unfolding writer_after_entry
@@ -96,7 +96,7 @@ returns-6 c =
     let n = c.before.before.before.before in
     let z = walked n in
     let f = unzeroed z in
-    accepts (state (start f)) (entry (start f)) (fitted f) (zero_free z) (none-due n) (sized c.before ∙ c.if5.false)
+    accepts (state (start f)) (entry (start f)) (fitted f) (zero_free z) (none_due n) (sized c.before ∙ c.if5.false)
 
 pub put_refusal_spec : {M : Type 1} → statement M
 put_refusal_spec =

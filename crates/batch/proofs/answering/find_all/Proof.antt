@@ -12,7 +12,7 @@ use Rattle.batch.specs.Steps.Duplicates.{Listed, RisingTo}
 use Rattle.batch.specs.Steps.Probing.{SearchOpen}
 use Rattle.batch.specs.Steps.Answers.{HasAnswer}
 use Rattle.batch.proofs.IndexLists.{listed_has}
-use Rattle.batch.proofs.AnswerPlaces.{Kept, kept-start, kept_step, listed_part}
+use Rattle.batch.proofs.AnswerPlaces.{Kept, kept_start, kept_step, listed_part}
 use Rattle.batch.proofs.Probes.{open_first}
 use Rattle.batch.proofs.Passes.{next_has_answer, last_has_answer}
 use Rattle.batch.proofs.answering.find_all.Statement.{statement}
@@ -66,7 +66,7 @@ loop-holds c =
       listed = λ z h. record { place = z; inside = h; is = refl };
       is_open = λ z h. open_first a.image.now (get_or a.hashes.now (get_or a.live.now z 0) 0);
       right = λ x h. inr (record { place = x; inside = h; is = refl });
-      kept = kept-start _ _ _ _ _ _;
+      kept = kept_start _ _ _ _ _ _;
     }
 
 slice-aggregate-pass : tie.Need-slice-aggregate-pass invariant_loop decreases_loop

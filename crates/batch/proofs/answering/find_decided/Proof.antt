@@ -47,7 +47,7 @@ put-decided-requires : tie.Need-put-decided-requires invariant_loop decreases_lo
 put-decided-requires c κs =
     let e = read c in
     let s = start e.before in
-    let name = c.before.before.before.nth-name.ensures in
+    let name = c.before.before.before.nth_name.ensures in
     let i = get_or s.args.list.now e.before.loop.x 0 in
     record {
       short = omega (arith, ap length name, name_short s.args.bytes.now s.args.ends.now i (below e) s.pre.short);
@@ -61,7 +61,7 @@ loop-again c =
     let put = c.before.before in
     let e = read put.before in
     let s = start e.before in
-    let name = put.before.before.before.before.nth-name in
+    let name = put.before.before.before.before.nth_name in
     finding_step s.pre.listed _ e.loop-test.taken name.ensures refl put.put-decided.ensures e.before.loop.inv
 
 returns : tie.Need-returns invariant_loop decreases_loop

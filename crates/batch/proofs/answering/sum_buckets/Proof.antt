@@ -7,7 +7,7 @@ use mathlib.Core.List.{List}
 use borrow.Author.Rules.{rules}
 use Rattle.batch.specs.Round.{round_buckets}
 use Rattle.batch.specs.Steps.Answers.{UniqueAnswered}
-use Rattle.batch.proofs.UniqueSums.{buckets_from, sum-start, sum_step, sum_end}
+use Rattle.batch.proofs.UniqueSums.{buckets_from, sum_start, sum_step, sum_end}
 use Rattle.batch.proofs.answering.sum_buckets.Statement.{statement}
 use Rattle.batch.proofs.answering.sum_buckets.Tie as tie
 
@@ -23,7 +23,7 @@ abbrev decreases_loop : tie.decreases_loop
 decreases_loop equals n answers sum₀ i₀ sum i = n - i
 
 loop-holds : tie.Need-loop-init invariant_loop decreases_loop
-loop-holds c = record { inside = omega arith; small = omega arith; whole = λ image xs u. sum-start image xs }
+loop-holds c = record { inside = omega arith; small = omega arith; whole = λ image xs u. sum_start image xs }
 
 add-sum : tie.Need-overflow-add-sum invariant_loop decreases_loop
 add-sum c = omega (arith, c.if-zero.ok)

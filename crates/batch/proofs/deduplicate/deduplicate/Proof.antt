@@ -6,7 +6,7 @@ use mathlib.Core.Path.{◌≡◌, refl, sym, subst}
 use mathlib.Core.List.{List}
 use lib.ListN.{length, length-set, replicate, length-replicate, get_or-replicate}
 use borrow.Author.Rules.{rules}
-use Rattle.image.proofs.NameEnds.{length-names}
+use Rattle.image.proofs.NameEnds.{length_names}
 use Rattle.batch.specs.RoundNames.{names}
 use Rattle.batch.specs.Steps.Slots.{SlotsHold}
 use Rattle.batch.specs.Steps.Duplicates.{Deduplicated}
@@ -60,7 +60,7 @@ loop-again c =
       equals_long = simp length-set v.equals_long;
       unique_long = simp length-set v.unique_long;
       holds = found.find-or-insert.ensures.holds;
-      deduplicated = deduplicated_step (omega (arith, length-names a.bytes.now a.ends.now)) (omega (arith, v.equals_long))
+      deduplicated = deduplicated_step (omega (arith, length_names a.bytes.now a.ends.now)) (omega (arith, v.equals_long))
           (omega (arith, v.unique_long, v.deduplicated.count)) found.find-or-insert.ensures.equal c.if-zero.ensures v.deduplicated;
     }
 

@@ -7,7 +7,7 @@ use lib.ListN.{length}
 use borrow.Author.Rules.{rules}
 use Rattle.image.specs.Bytes.{same}
 use Rattle.image.proofs.Equal.{same_false}
-use Rattle.image.proofs.NameEnds.{length-names}
+use Rattle.image.proofs.NameEnds.{length_names}
 use Rattle.batch.specs.RoundNames.{names, nth}
 use Rattle.batch.proofs.Duplicates.{other_hash}
 use Rattle.batch.proofs.deduplicate.equal_names.Statement.{statement}
@@ -20,7 +20,7 @@ returns : tie.Need-returns
 returns c =
     let s = start c.before in
     let xs = names s.args.bytes.now s.args.ends.now in
-    let size = length-names s.args.bytes.now s.args.ends.now in
+    let size = length_names s.args.bytes.now s.args.ends.now in
     let i : s.args.i < length xs = omega (arith, s.pre.second) in
     let j : s.args.j < length xs = omega (arith, s.pre.first) in
     sym
@@ -33,7 +33,7 @@ returns-2 c =
     let name-j = name-i.before in
     let s = start name-j.before.before in
     c.same.ensures
-    ∙ ap (λ (l : List ℕ). same l name-i.nth-name2.result.now) name-j.nth-name.ensures
+    ∙ ap (λ (l : List ℕ). same l name-i.nth-name2.result.now) name-j.nth_name.ensures
     ∙ ap (same (nth (names s.args.bytes.now s.args.ends.now) s.args.j)) name-i.nth-name2.ensures
 
 pub equal_names_spec : {M : Type 1} → statement M

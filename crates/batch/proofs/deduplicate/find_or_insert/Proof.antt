@@ -6,10 +6,10 @@ use mathlib.Core.Path.{sym, subst, ◌∙◌}
 use mathlib.Core.List.{List}
 use lib.ListN.{length, get_or, length-set}
 use borrow.Author.Rules.{rules}
-use Rattle.image.proofs.NameEnds.{length-names}
+use Rattle.image.proofs.NameEnds.{length_names}
 use Rattle.batch.specs.RoundNames.{names}
 use Rattle.batch.specs.Steps.Slots.{round_slot, SlotsHold}
-use Rattle.lookup_laws.proofs.SlotSearch.{Remaining, remaining_start, remaining_step, remaining_end, first-empty, none_matches}
+use Rattle.lookup_laws.proofs.SlotSearch.{Remaining, remaining_start, remaining_step, remaining_end, first_empty_lem, none_matches}
 use Rattle.batch.proofs.Duplicates.{equal_to, slot_below, some_empty, found_equal, inserted_here}
 use Rattle.batch.proofs.deduplicate.find_or_insert.Statement.{statement}
 use Rattle.batch.proofs.deduplicate.find_or_insert.Tie as tie
@@ -35,10 +35,10 @@ abbrev xs : tie.Start invariant_loop decreases_loop → List (List ℕ)
 xs s = names s.args.bytes.now s.args.ends.now
 
 inside : (s : tie.Start invariant_loop decreases_loop) → s.args.i < length (xs s)
-inside s = omega (arith, length-names s.args.bytes.now s.args.ends.now, s.requires.inside)
+inside s = omega (arith, length_names s.args.bytes.now s.args.ends.now, s.requires.inside)
 
 few : (s : tie.Start invariant_loop decreases_loop) → length (xs s) ≤ 512
-few s = omega (arith, length-names s.args.bytes.now s.args.ends.now, s.requires.names.few)
+few s = omega (arith, length_names s.args.bytes.now s.args.ends.now, s.requires.names.few)
 
 -- the number in the slot is that of a name before the i-th
 below : (c : tie.At-loop invariant_loop decreases_loop) → get_or c.loop.slots c.loop.k 0 ≤ (start c).args.i
@@ -78,7 +78,7 @@ returns c =
     let s = start turn.before in
     let rest = l.invariant.rest in
     let more = turn.loop-test.true in
-    inserted_here s.pre.names.hashed (inside s) (few s) l.invariant.holds l.k rest.inside (first-empty rest more c.if1.true)
+    inserted_here s.pre.names.hashed (inside s) (few s) l.invariant.holds l.k rest.inside (first_empty_lem rest more c.if1.true)
     (none_matches rest more c.if1.true)
 
 cast-equal-names : tie.Need-overflow-cast-equal-names invariant_loop decreases_loop

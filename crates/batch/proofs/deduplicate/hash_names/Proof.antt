@@ -5,7 +5,7 @@ use mathlib.Core.Path.{◌≡◌, refl, ap, ◌∙◌}
 use mathlib.Core.List.{List}
 use lib.ListN.{length, length-set}
 use borrow.Author.Rules.{rules}
-use Rattle.image.proofs.NameEnds.{length-names}
+use Rattle.image.proofs.NameEnds.{length_names}
 use Rattle.batch.specs.RoundNames.{names}
 use Rattle.batch.specs.Steps.Duplicates.{hash_or_zero}
 use Rattle.batch.proofs.Duplicates.{HashesTo, hashes_step}
@@ -39,13 +39,13 @@ loop-again c =
       inside = omega arith;
       long = simp length-set l.invariant.long;
       stored = hashes_step (names s.args.bytes.now s.args.ends.now) l.hashes l.i c.hash-or-zero.result inside l.invariant.stored
-          (c.hash-or-zero.ensures ∙ ap hash_or_zero c.before.nth-name.ensures);
+          (c.hash-or-zero.ensures ∙ ap hash_or_zero c.before.nth_name.ensures);
     }
 
 returns : tie.Need-returns invariant_loop decreases_loop
 returns c =
     let a = (start c.before).args in
-    λ i h. c.before.loop.invariant.stored i (omega (arith, length-names a.bytes.now a.ends.now))
+    λ i h. c.before.loop.invariant.stored i (omega (arith, length_names a.bytes.now a.ends.now))
 
 pub hash_names_spec : {M : Type 1} → statement M
 hash_names_spec =

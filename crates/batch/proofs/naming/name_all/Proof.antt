@@ -10,7 +10,7 @@ use Rattle.reader.proofs.Lengths.{naming_small}
 use Rattle.batch.specs.NameRound.{place_words}
 use Rattle.batch.specs.Steps.Answers.{put_words, Has}
 use Rattle.batch.proofs.AnswerPlaces.{has_after}
-use Rattle.batch.proofs.PlaceWords.{all-places}
+use Rattle.batch.proofs.PlaceWords.{all_places}
 use Rattle.batch.proofs.naming.name_all.Statement.{statement}
 use Rattle.batch.proofs.naming.name_all.Tie as tie
 
@@ -70,7 +70,7 @@ returns : tie.Need-returns invariant_loop decreases_loop
 returns c =
     let a = (start c.before).args in
     let l = c.before.loop in
-    all-places a.image.now a.ids.now l.answers (omega (arith, l.invariant.long, (start c.before).pre))
+    all_places a.image.now a.ids.now l.answers (omega (arith, l.invariant.long, (start c.before).pre))
     (λ i h. l.invariant.stored i (omega (arith, c.loop-test.false)))
 
 pub name_all_spec : {M : Type 1} → statement M

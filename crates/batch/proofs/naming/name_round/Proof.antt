@@ -8,7 +8,7 @@ use Prim.Native.Nat.{ℕ}
 use borrow.Author.Tests.{lt-ltb, le-ltb}
 use borrow.Author.Rules.{rules}
 use lib.ListN.{length, drop, length-take}
-use Rattle.batch.proofs.PlaceWords.{refusal_by, names-left, names_stored}
+use Rattle.batch.proofs.PlaceWords.{refusal_by, names_left, names_stored}
 use Rattle.batch.proofs.naming.name_round.Statement.{statement}
 use Rattle.batch.proofs.naming.name_round.Tie as tie
 
@@ -20,7 +20,7 @@ returns c =
     let s = c.before.before.before.before in
     let ids = s.args.ids.now in
     let e = refusal_by ids (length s.args.answers.now / 4) true _ (lt-ltb 512 (length ids) c.if1.true) refl in
-    (e, names-left s.args.image.now ids s.args.answers.now 14 e (omega arith))
+    (e, names_left s.args.image.now ids s.args.answers.now 14 e (omega arith))
 
 returns-2 : tie.Need-returns-2
 returns-2 c =
@@ -28,7 +28,7 @@ returns-2 c =
     let ids = a.ids.now in
     let places = length a.answers.now / 4 in
     let e = refusal_by ids places false true (le-ltb 512 (length ids) c.before.if1.false) (lt-ltb places (length ids) c.if2.true) in
-    (e, names-left a.image.now ids a.answers.now 15 e (omega arith))
+    (e, names_left a.image.now ids a.answers.now 15 e (omega arith))
 
 slice-aggregate-name-all : tie.Need-slice-aggregate-name-all
 slice-aggregate-name-all c = simp length-take (omega (arith, c.before.if2.false))

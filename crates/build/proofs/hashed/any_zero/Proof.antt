@@ -7,7 +7,7 @@ use mathlib.Core.Bool.{Bool, ◌||◌}
 use mathlib.Core.List.{List}
 use lib.ListN.{length, drop}
 use Rattle.image.specs.Zero.{has_zero}
-use Rattle.build.proofs.StoredAll.{any-zero-step, any-zero_end}
+use Rattle.build.proofs.StoredAll.{any_zero_step, any_zero_end}
 use Rattle.build.proofs.hashed.any_zero.Statement.{statement}
 use Rattle.build.proofs.hashed.any_zero.Tie as tie
 
@@ -26,7 +26,7 @@ loop-again c =
     let l = c.before.before.loop in
     record {
       inside = omega (arith, c.before.loop-test.true);
-      whole = any-zero-step _ l.i l.any _ c.before.loop-test.true l.invariant.whole;
+      whole = any_zero_step _ l.i l.any _ c.before.loop-test.true l.invariant.whole;
     }
 
 pub any_zero_spec : {M : Type 1} → statement M
@@ -40,4 +40,4 @@ any_zero_spec =
     (λ c. search rules)
     (λ c. search rules)
     loop-again
-    (λ c. let l = c.before.loop in any-zero_end _ l.i l.any _ (omega (arith, c.loop-test.false)) l.invariant.whole))
+    (λ c. let l = c.before.loop in any_zero_end _ l.i l.any _ (omega (arith, c.loop-test.false)) l.invariant.whole))

@@ -32,13 +32,13 @@ raise-requires : tie.Need-raise-requires invariant_loop decreases_loop
 raise-requires c κs =
     let h = c.before in
     let l = (entered h).before in
-    count_word (start l).pre l.loop.inv (entered h).loop-test.true h.before.nth-name.ensures h.hash-name.ensures
+    count_word (start l).pre l.loop.inv (entered h).loop-test.true h.before.nth_name.ensures h.hash-name.ensures
 
 loop-again : tie.Need-loop-preserved invariant_loop decreases_loop
 loop-again c =
     let h = c.before.before in
     let l = (entered h).before in
-    hashing_step (start l).pre l.loop.inv (entered h).loop-test.true h.before.nth-name.ensures h.hash-name.ensures (start l).pre.hashes_long
+    hashing_step (start l).pre l.loop.inv (entered h).loop-test.true h.before.nth_name.ensures h.hash-name.ensures (start l).pre.hashes_long
     c.raise.ensures
 
 pub hash_list_spec : {M : Type 1} → statement M

@@ -7,10 +7,10 @@ use mathlib.Core.List.{List}
 use lib.ListN.{length}
 use borrow.Author.Rules.{rules}
 use Rattle.image.specs.PackedNames.{names}
-use Rattle.image.proofs.NameEnds.{length-names}
+use Rattle.image.proofs.NameEnds.{length_names}
 use Rattle.writer.specs.declared.CQDBWriter.{CQDBWriter}
 use Rattle.writer.specs.State.{state_with}
-use Rattle.build.proofs.SinglePuts.{PutsBefore, puts-start, puts_turn, puts_end, answers_end}
+use Rattle.build.proofs.SinglePuts.{PutsBefore, puts_start, puts_turn, puts_end, answers_end}
 use Rattle.build.proofs.singly.put_list.Statement.{statement}
 use Rattle.build.proofs.singly.put_list.Tie as tie
 
@@ -50,7 +50,7 @@ loop-holds c =
       inside = omega arith;
       buffer_length = refl;
       slots_length = refl;
-      puts = puts-start s.requires.begun s.requires.list.head-fits s.requires.cleared;
+      puts = puts_start s.requires.begun s.requires.list.head_fits s.requires.cleared;
     }
 
 put-name-requires : tie.Need-put-name-requires invariant_loop decreases_loop
@@ -68,7 +68,7 @@ loop-again c =
     let l = e.before.loop in
     let s = start e in
     let a = s.args in
-    let size = length-names a.bytes.now a.ends.now in
+    let size = length_names a.bytes.now a.ends.now in
     let p = called c in
     let done = p.put-name in
     let g = l.inv.puts in
@@ -79,7 +79,7 @@ loop-again c =
       inside = omega (arith, e.loop-test.taken);
       buffer_length = search rules;
       slots_length = done.kept.1.1.1.0 ∙ l.inv.slots_length;
-      puts = puts_turn g inside many room _ (named p).nth-name.ensures done.result.refusal _ done.last.1.1.1.0 done.ensures
+      puts = puts_turn g inside many room _ (named p).nth_name.ensures done.result.refusal _ done.last.1.1.1.0 done.ensures
           done.kept.1.1.1.0;
     }
 
@@ -87,7 +87,7 @@ returns : tie.Need-returns invariant_loop decreases_loop
 returns c =
     let l = c.before.loop in
     let a = c.before.before.before.before.before.before.before.before.args in
-    let size = length-names a.bytes.now a.ends.now in
+    let size = length_names a.bytes.now a.ends.now in
     let last : length a.ends.now ≡ l.i = omega (arith, l.invariant.inside, c.loop-test.false) in
     record {
       leaves = puts_end l.invariant.puts (omega (arith, size, last));

@@ -83,24 +83,24 @@ sized c =
     let s = start (counted c) in
     c.before.finished-size.ensures ∙ size_is s.args.mode _ _ _ s.args.counts.now s.args.buf.now (all s) (known c)
 
-offset : (c : tie.After-back-offset invariant_loop decreases_loop) → let s = start (counted c) in c.back-offset.result ≡ back_offset s.args.mode (all s)
+offset : (c : tie.After-back-offset invariant_loop decreases_loop) → let s = start (counted c) in c.back_offset_lem.result ≡ back_offset s.args.mode (all s)
 offset c =
     let s = start (counted c) in
-    c.back-offset.ensures ∙ back_offset_is s.args.mode _ _ _ s.args.counts.now s.args.buf.now (all s) (known c)
+    c.back_offset_lem.ensures ∙ back_offset_is s.args.mode _ _ _ s.args.counts.now s.args.buf.now (all s) (known c)
 
-offset_word : (c : tie.After-back-offset invariant_loop decreases_loop) → c.back-offset.result < 4294967296
+offset_word : (c : tie.After-back-offset invariant_loop decreases_loop) → c.back_offset_lem.result < 4294967296
 offset_word c =
     let s = start (counted c) in
     let n = length s.args.ends.now in
     let end = head_size + 9 * n + get_or s.args.ends.now (n - 1) 0 in
-    omega (arith, c.back-offset.ensures, back_offset_le s.args.mode end n c.before.before.back_in.result, sum s)
+    omega (arith, c.back_offset_lem.ensures, back_offset_le s.args.mode end n c.before.before.back_in.result, sum s)
 
 -- the name of a turn, and where its entry ends
-turn : (c : tie.After-nth-name invariant_loop decreases_loop) → let l = (entered c).before in l.loop.at + (length c.nth-name.result.now + 9) ≤ 4294967295
+turn : (c : tie.After-nth-name invariant_loop decreases_loop) → let l = (entered c).before in l.loop.at + (length c.nth_name.result.now + 9) ≤ 4294967295
 turn c =
     let l = (entered c).before in
     let w = words (counted (told (begun l))) in
-    omega (arith, turn_room (from l).pre w l.loop.inv (entered c).loop-test.true c.nth-name.ensures, small (from l).pre w)
+    omega (arith, turn_room (from l).pre w l.loop.inv (entered c).loop-test.true c.nth_name.ensures, small (from l).pre w)
 
 -- ---- the needs
 
@@ -144,7 +144,7 @@ store-requires c κs =
     let w = words (counted (told (begun l))) in
     record {
       inside = omega
-          (arith, turn_room (from l).pre w l.loop.inv (entered n).loop-test.true n.nth-name.ensures, within (from l).pre w, kept l);
+          (arith, turn_room (from l).pre w l.loop.inv (entered n).loop-test.true n.nth_name.ensures, within (from l).pre w, kept l);
       short = omega (arith, turn n);
     }
 
@@ -155,7 +155,7 @@ loop-again c =
     let n = named s in
     let l = (entered n).before in
     let t = told (begun l) in
-    turn_step (from l).pre (words (counted t)) l.loop.inv (entered n).loop-test.taken n.nth-name.ensures s.store.ensures (offset t) refl
+    turn_step (from l).pre (words (counted t)) l.loop.inv (entered n).loop-test.taken n.nth_name.ensures s.store.ensures (offset t) refl
     p.partition-entry.ensures (p.partition-entry.auto.1.1.0 ∙ s.store.kept.0 ∙ l.loop.inv.long)
 
 fill-all-requires : tie.Need-fill-all-requires invariant_loop decreases_loop

@@ -6,7 +6,7 @@ use mathlib.Core.Path.{◌≡◌, ap, ◌∙◌}
 use Prim.Native.Nat.{ℕ}
 use mathlib.Core.List.{List}
 use Rattle.jhash.specs.NameHash.{hash_of}
-use Rattle.jhash.proofs.Outcomes.{hash_or-zero_short}
+use Rattle.jhash.proofs.Outcomes.{hash_or_zero_short}
 use Rattle.image.specs.Tables.{table_of}
 use Rattle.image.proofs.Between.{EntryRoom}
 use Rattle.canonical.specs.Steps.Checks.{entry_name}
@@ -60,7 +60,7 @@ hash_is c =
     let name = c.before.name_at in
     let n = (whole c).before.whole_length in
     c.hash-or-zero.ensures
-    ∙ hash_or-zero_short name.result.now (omega (arith, name.ensures.size, n.ensures.small, (inside (whole c)).name.some))
+    ∙ hash_or_zero_short name.result.now (omega (arith, name.ensures.size, n.ensures.small, (inside (whole c)).name.some))
     ∙ ap hash_of name.ensures.is
 
 read : (c : tie.After-check-entry invariant_loop decreases_loop)

@@ -11,7 +11,7 @@ use lib.Dec.{eqb}
 use Rattle.image.specs.Head.{table_at, bucket_number}
 use Rattle.canonical.specs.Steps.Checks.{row_count, row_ok, table_ok}
 use Rattle.canonical.specs.Steps.Contracts.{CheckRowsPre}
-use Rattle.canonical.proofs.TableLoops.{Rows, rows_start, table_buckets, table_offset, row_room, row-table, row_next, all_passed}
+use Rattle.canonical.proofs.TableLoops.{Rows, rows_start, table_buckets, table_offset, row_room, row_table, row_next, all_passed}
 use Rattle.canonical.proofs.tables.check_rows.Statement.{statement}
 use Rattle.canonical.proofs.tables.check_rows.Tie as tie
 
@@ -90,7 +90,7 @@ returns-3 : tie.Need-returns-3 invariant_loop decreases_loop
 returns-3 c =
     let e = evened c.before in
     let t = in_loop e in
-    row-table (pre_of t) t.before.loop.inv t.loop-test.taken (even e) (there c.before.before) _ (table c.before) (not-true _ c.if3.true)
+    row_table (pre_of t) t.before.loop.inv t.loop-test.taken (even e) (there c.before.before) _ (table c.before) (not-true _ c.if3.true)
 
 add-o : tie.Need-overflow-add-o invariant_loop decreases_loop
 add-o c = let r = room c.before.before in omega arith

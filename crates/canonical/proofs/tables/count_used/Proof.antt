@@ -11,7 +11,7 @@ use Rattle.canonical.proofs.tables.count_used.Statement.{statement}
 use Rattle.canonical.proofs.tables.count_used.Tie as tie
 
 record Counting (img : List ℕ) (o n used k : ℕ) : Type 0 where
-  back-words : Used (back_word_at img o) k used
+  back_words_lem : Used (back_word_at img o) k used
   inside : k ≤ n
 
 abbrev invariant_loop : tie.invariant_loop
@@ -21,7 +21,7 @@ abbrev decreases_loop : tie.decreases_loop
 decreases_loop img o n used₀ k₀ used k = n - k
 
 loop-holds : tie.Need-loop-init invariant_loop decreases_loop
-loop-holds c = record { back-words = used_start _; inside = omega arith }
+loop-holds c = record { back_words_lem = used_start _; inside = omega arith }
 
 -- the back words up to this one
 next : (c : tie.After-used-bit invariant_loop decreases_loop)
@@ -31,15 +31,15 @@ next : (c : tie.After-used-bit invariant_loop decreases_loop)
 next c =
     let l = c.before.before in
     record {
-      back-words = used_next l.before.loop.invariant.back-words c.used-bit.result (c.used-bit.ensures ∙ ap (bit 1) c.before.word-or-zero.ensures);
+      back_words_lem = used_next l.before.loop.invariant.back_words_lem c.used-bit.result (c.used-bit.ensures ∙ ap (bit 1) c.before.word-or-zero.ensures);
       inside = omega (arith, l.loop-test.true);
     }
 
 add-used : tie.Need-overflow-add-used invariant_loop decreases_loop
-add-used c = let u = next c in omega (arith, u.back-words.few, u.inside)
+add-used c = let u = next c in omega (arith, u.back_words_lem.few, u.inside)
 
 returns : tie.Need-returns invariant_loop decreases_loop
-returns c = let l = c.before.loop in used_end l.invariant.back-words (omega (arith, l.invariant.inside))
+returns c = let l = c.before.loop in used_end l.invariant.back_words_lem (omega (arith, l.invariant.inside))
 
 pub count_used_spec : {M : Type 1} → statement M
 count_used_spec =

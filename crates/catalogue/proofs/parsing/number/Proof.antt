@@ -6,7 +6,7 @@ use mathlib.Core.List.{List}
 use lib.ListN.{length, drop}
 use borrow.Author.Rules.{rules}
 use Rattle.catalogue.specs.Lines.{number_from, decimal}
-use Rattle.catalogue.proofs.Decimals.{digit-read, number_end, bound_more, bound_fits}
+use Rattle.catalogue.proofs.Decimals.{digit_read_lem, number_end, bound_more, bound_fits}
 use Rattle.catalogue.proofs.parsing.number.Statement.{statement}
 use Rattle.catalogue.proofs.parsing.number.Tie as tie
 
@@ -53,7 +53,7 @@ loop-again c =
     record {
       inside = omega arith;
       whole =
-          sym (digit-read digits at.v at.i d c.before.before.loop-test.true c.digit.ensures.value)
+          sym (digit_read_lem digits at.v at.i d c.before.before.loop-test.true c.digit.ensures.value)
           ∙ at.invariant.whole;
       bound = bound_more at.v d at.i at.invariant.bound c.digit.ensures.bound;
     }

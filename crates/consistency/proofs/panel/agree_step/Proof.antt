@@ -5,7 +5,7 @@ use mathlib.Core.Bool.{Bool, cond}
 use lib.ListN.{length}
 use Rattle.reader.specs.Cases.{naming_of}
 use Rattle.reader.proofs.Namings.{named}
-use Rattle.consistency.proofs.Panels.{agree_unnamed, agree_step-same, agree_step-differs}
+use Rattle.consistency.proofs.Panels.{agree_unnamed, agree_step_same, agree_step_differs}
 use borrow.Author.Rules.{rules}
 use Rattle.consistency.proofs.panel.agree_step.Statement.{statement}
 use Rattle.consistency.proofs.panel.agree_step.Tie as tie
@@ -29,7 +29,7 @@ returns c =
     let a = (start c.before).args in
     let place = c.before.before.before.start.given in
     let told = ap naming_of (sym place.1) ∙ c.before.before.before.before.before.to-str.ensures in
-    agree_step-same a.image.now a.id place.0.0 place.0.1.0 told (inside c.before.before) c.before.shown-length.result
+    agree_step_same a.image.now a.id place.0.0 place.0.1.0 told (inside c.before.before) c.before.shown-length.result
     c.before.shown-length.ensures c.if1.true
 
 returns-2 : tie.Need-returns-2
@@ -37,7 +37,7 @@ returns-2 c =
     let a = (start c.before).args in
     let place = c.before.before.before.start.given in
     let told = ap naming_of (sym place.1) ∙ c.before.before.before.before.before.to-str.ensures in
-    agree_step-differs a.image.now a.id place.0.0 place.0.1.0 told (inside c.before.before) c.before.shown-length.result
+    agree_step_differs a.image.now a.id place.0.0 place.0.1.0 told (inside c.before.before) c.before.shown-length.result
     c.before.shown-length.ensures c.if1.false
 
 returns-3 : tie.Need-returns-3

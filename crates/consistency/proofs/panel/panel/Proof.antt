@@ -4,7 +4,7 @@ use mathlib.Core.Path.{sym, ap, ◌∙◌}
 use Rattle.reader.specs.Cases.{naming_of}
 use Rattle.reader.specs.Slices.{slice, subslice}
 use Rattle.consistency.specs.Panel.{panel}
-use Rattle.reader.proofs.Namings.{named_slice, no-slice}
+use Rattle.reader.proofs.Namings.{named_slice, no_slice}
 use Rattle.consistency.proofs.Panels.{panel_inside}
 use borrow.Author.Rules.{rules}
 use Rattle.consistency.proofs.panel.panel.Statement.{statement}
@@ -38,7 +38,7 @@ returns-2 : tie.Need-returns-2
 returns-2 c =
     let a = c.before.before.before.before.before.args in
     let image = slice a.image in
-    no-slice image (subslice image 0 0) (panel a.image.now a.id)
+    no_slice image (subslice image 0 0) (panel a.image.now a.id)
     (ap naming_of (sym c.before.enum_told.given.1) ∙ c.before.before.before.panel-place.ensures)
 
 pub panel_spec : {M : Type 1} → statement M

@@ -7,7 +7,7 @@ use borrow.Author.Rules.{rules}
 use Rattle.image.specs.Bytes.{all}
 use Rattle.consistency.specs.Panel.{agree_on, readings_agree}
 use Rattle.reader.specs.IdWalk.{upper_hint}
-use Rattle.consistency.proofs.Panels.{disagree, agree_further, agree_hinted, agree_none, agree_step_nonzero, agree_step-zero, agree_step-next}
+use Rattle.consistency.proofs.Panels.{disagree, agree_further, agree_hinted, agree_none, agree_step_nonzero, agree_step_zero, agree_step_next}
 use Rattle.consistency.proofs.panel.readings_agree.Statement.{statement}
 use Rattle.consistency.proofs.panel.readings_agree.Tie as tie
 
@@ -39,7 +39,7 @@ returns c =
     let n = c.before.before.before.before.size-hint.result in
     let less = c.before.before.loop-test.true in
     let look = c.before.agree-step in
-    let no = agree_step-zero (agree_on image of-loop.id) of-loop.id look.result look.ensures c.if1.true in
+    let no = agree_step_zero (agree_on image of-loop.id) of-loop.id look.result look.ensures c.if1.true in
     sym (disagree image n of-loop.id less no) ∙ of-loop.invariant.same
 
 loop-less : tie.Need-loop-smaller invariant_loop decreases_loop
@@ -48,7 +48,7 @@ loop-less c =
     let of-loop = c.before.before.before.loop in
     let look = c.before.agree-step in
     let less = c.before.before.loop-test.true in
-    let next = agree_step-next (agree_on image of-loop.id) of-loop.id look.result look.ensures c.if1.false in
+    let next = agree_step_next (agree_on image of-loop.id) of-loop.id look.result look.ensures c.if1.false in
     omega arith
 
 loop-again : tie.Need-loop-preserved invariant_loop decreases_loop
@@ -59,7 +59,7 @@ loop-again c =
     let less = c.before.before.loop-test.true in
     let look = c.before.agree-step in
     let yes = agree_step_nonzero (agree_on image of-loop.id) of-loop.id look.result look.ensures c.if1.false in
-    let next = agree_step-next (agree_on image of-loop.id) of-loop.id look.result look.ensures c.if1.false in
+    let next = agree_step_next (agree_on image of-loop.id) of-loop.id look.result look.ensures c.if1.false in
     record {
       most = omega arith;
       same = ap (λ (k : ℕ). all (agree_on image) k (n - k)) next ∙ agree_further image n of-loop.id less yes ∙ of-loop.invariant.same;

@@ -20,18 +20,18 @@ start c = c.before.before.before.before.before.before.before
 abbrev given : tie.After-begin → LentWriter
 given c = let a = (start c).args in lent_writer a.numbers.now a.sizes.now a.counts.now
 
-abbrev counts-after : tie.After-begin → List ℕ
-counts-after c = c.begin.new.1.1.0
+abbrev counts_after : tie.After-begin → List ℕ
+counts_after c = c.begin.new.1.1.0
 
 told : (c : tie.After-begin) → let a = (start c).args in let b = begun_of c.begin.result in
     (number_in b ≡ number_in (beginning_of a.mode a.repeats (length a.buf.now)))
-    × (stored b (given c) (counts-after c) ≡ left_by_begin a.mode a.repeats (length a.buf.now) (given c))
+    × (stored b (given c) (counts_after c) ≡ left_by_begin a.mode a.repeats (length a.buf.now) (given c))
 told c =
     let a = (start c).args in
     let of-repeats-of = c.before.before.repeats-of in
     let of-mode-of = c.before.before.before.Mode-of in
     let tested = c.before.before.before.before in
-    begin_known a.mode a.repeats (length a.buf.now) (given c) (counts-after c) of-mode-of.result of-repeats-of.result
+    begin_known a.mode a.repeats (length a.buf.now) (given c) (counts_after c) of-mode-of.result of-repeats-of.result
     (begun_of c.begin.result) (sym tested.before.valid-numbers.ensures ∙ not-false _ tested.if1.false) of-mode-of.ensures
     of-repeats-of.ensures c.begin.ensures
 
@@ -46,8 +46,8 @@ returns-2 c =
     let d = c.before.before.before.before.before.before in
     let is = sym c.before.before.before.before.begun.given.1 in (
       ap (λ (b : Begun). number_in (begun_of b)) is ∙ (told d).0,
-      ap (λ (r : Record). lent_writer (numbers_of r) (sizes_of r) (counts-after d)) c.before.before.record_of.ensures
-          ∙ ap (λ (b : Begun). stored (begun_of b) (given d) (counts-after d)) is
+      ap (λ (r : Record). lent_writer (numbers_of r) (sizes_of r) (counts_after d)) c.before.before.record_of.ensures
+          ∙ ap (λ (b : Begun). stored (begun_of b) (given d) (counts_after d)) is
           ∙ (told d).1,
     )
 
@@ -56,7 +56,7 @@ returns-3 c =
     let d = c.before.before.before in
     let is = sym c.before.begun2.given.1 in (
       ap (λ (b : Begun). number_in (begun_of b)) is ∙ (told d).0,
-      ap (λ (b : Begun). stored (begun_of b) (given d) (counts-after d)) is ∙ (told d).1,
+      ap (λ (b : Begun). stored (begun_of b) (given d) (counts_after d)) is ∙ (told d).1,
     )
 
 pub cqdb_begin_parts_spec : {M : Type 1} → statement M

@@ -1,12 +1,12 @@
 -- `image::entries::walk` meets its contract. Assumes nothing.
 use Rattle.std.proofs.Common.{◌≡◌, ◌<◌, sym, refl, ◌∙◌, arith, rules}
 use Rattle.jhash.specs.NameHash.{hash_of}
-use Rattle.jhash.proofs.Outcomes.{hash_or-zero_short}
+use Rattle.jhash.proofs.Outcomes.{hash_or_zero_short}
 use Rattle.image.specs.Tables.{table_of}
 use Rattle.image.specs.Stored.{between}
 use Rattle.image.proofs.Bools.{false_not_true}
 use Rattle.image.proofs.Between.{Front, front, EntryRoom, entry_room}
-use Rattle.image.proofs.EntryWalk.{WalkInv, walk_start, walk_step, walk-broken, walk_end, contains_step, contains_end}
+use Rattle.image.proofs.EntryWalk.{WalkInv, walk_start, walk_step, walk_broken, walk_end, contains_step, contains_end}
 use Rattle.image.proofs.entries.walk.Statement.{statement}
 use Rattle.image.proofs.entries.walk.Tie as tie
 
@@ -57,7 +57,7 @@ hash k =
     let name = (named k).name_at in
     let n = (named k).before.before.whole_length in
     k.hash-or-zero2.ensures
-    ∙ hash_or-zero_short name.result.now (omega (arith, name.ensures.size, n.ensures.small, (inside (named k).before).name.some))
+    ∙ hash_or_zero_short name.result.now (omega (arith, name.ensures.size, n.ensures.small, (inside (named k).before).name.some))
 
 loop-holds : tie.Need-loop-init invariant_loop decreases_loop
 loop-holds c =
@@ -75,7 +75,7 @@ returns c =
     let a = (begun c.before).args in
     let l = c.before.before.before.loop in
     record {
-      whole_is = walk-broken a.buf.now a.end a.entries a.counts.now l.at l.left l.back l.counts l.invariant.rest
+      whole_is = walk_broken a.buf.now a.end a.entries a.counts.now l.at l.left l.back l.counts l.invariant.rest
           c.before.before.loop-test.true (sym c.if1.true ∙ c.before.whole_length.ensures.is);
       back_is = λ z. absurd (false_not_true z);
       contains_is = λ z. absurd (false_not_true z);

@@ -2,7 +2,7 @@
 use Rattle.std.proofs.Common.{ℕ, length, get_or, sym, ap, ◌∙◌, arith, rules}
 use Rattle.image.specs.Stored.{between}
 use Rattle.image.specs.PackedNames.{begin_of}
-use Rattle.image.proofs.NameEnds.{Placed, placed, nth-name}
+use Rattle.image.proofs.NameEnds.{Placed, placed, nth_name}
 use Rattle.image.proofs.packed.nth_name.Statement.{statement}
 use Rattle.image.proofs.packed.nth_name.Tie as tie
 
@@ -30,7 +30,7 @@ returns c =
     let z = c.before.before in
     let s = start z in
     ap (λ (b : ℕ). between s.args.bytes.now b (get_or s.args.ends.now s.args.i 0)) z.begin-of.ensures
-    ∙ sym (nth-name s.args.bytes.now s.args.ends.now s.args.i s.pre.inside)
+    ∙ sym (nth_name s.args.bytes.now s.args.ends.now s.args.i s.pre.inside)
 
 pub nth_name_spec : {M : Type 1} → statement M
 nth_name_spec =

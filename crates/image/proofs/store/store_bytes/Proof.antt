@@ -1,6 +1,6 @@
 -- `image::store::store_bytes` meets its contract. Assumes nothing.
 use Rattle.std.proofs.Common.{◌≡◌, ◌+◌, ◌-◌, ◌≤◌, [], length, drop, refl, ◌∙◌, add-zero, arith, length-set, drop_of_length-le, rules}
-use Rattle.image.proofs.Stores.{StoreInv, sets-step}
+use Rattle.image.proofs.Stores.{StoreInv, sets_step}
 use lib.Seq.{sets}
 use Rattle.image.proofs.store.store_bytes.Statement.{statement}
 use Rattle.image.proofs.store.store_bytes.Tie as tie
@@ -36,7 +36,7 @@ loop-again c =
     record {
       inside = omega arith;
       same_length = simp length-set i.invariant.same_length;
-      rest = sets-step a.src.now i.buf a.at i.j 0 (omega arith) ∙ i.invariant.rest;
+      rest = sets_step a.src.now i.buf a.at i.j 0 (omega arith) ∙ i.invariant.rest;
     }
 
 same_length : tie.Need-same-length invariant_loop decreases_loop

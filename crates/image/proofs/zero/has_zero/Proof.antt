@@ -1,7 +1,7 @@
 -- `image::zero::has_zero` meets its contract. The loop's invariant: what is left has a zero byte exactly where the name has. Assumes nothing.
 use Rattle.std.proofs.Common.{ℕ, ◌-◌, List, length, sym, ◌∙◌, arith, rules}
 use Rattle.image.proofs.Bools.{or_false_first, or_false_second}
-use Rattle.image.proofs.Zeros.{ZeroInv, zero_at_an_end, none_in_first, zero_in_front, none_in_front, zero-last, zero_overlap}
+use Rattle.image.proofs.Zeros.{ZeroInv, zero_at_an_end, none_in_first, zero_in_front, none_in_front, zero_last, zero_overlap}
 use Rattle.image.proofs.zero.has_zero.Statement.{statement}
 use Rattle.image.proofs.zero.has_zero.Tie as tie
 
@@ -57,7 +57,7 @@ returns-4 c =
     let first = c.before.before.before.before.zero-in-eight in
     let last = c.before.before.before.zero-in-eight2 in
     let none = sym last.ensures ∙ or_false_second first.result last.result c.before.before.if2.false in
-    sym (sym (zero-last name 8 (omega arith)) ∙ none)
+    sym (sym (zero_last name 8 (omega arith)) ∙ none)
     ∙ zero_overlap name (length name - 8) of-loop.i (omega arith) of-loop.invariant.rest
 
 pub has_zero_spec : {M : Type 1} → statement M

@@ -1,6 +1,6 @@
 -- `image::zero::length_before_zero` meets its contract. Assumes nothing.
 use Rattle.std.proofs.Common.{◌-◌, length, refl, ap, arith, rules}
-use Rattle.image.proofs.Zeros.{BeforeInv, before-none, before_there, before_further}
+use Rattle.image.proofs.Zeros.{BeforeInv, before_none, before_there, before_further}
 use Rattle.image.proofs.zero.length_before_zero.Statement.{statement}
 use Rattle.image.proofs.zero.length_before_zero.Tie as tie
 
@@ -38,7 +38,7 @@ returns-2 : tie.Need-returns-2 invariant_loop decreases_loop
 returns-2 c =
     let a = c.before.before.args in
     let of-loop = c.before.loop in
-    let none = before-none a.name.now of-loop.i c.loop-test.false in
+    let none = before_none a.name.now of-loop.i c.loop-test.false in
     let rest = of-loop.invariant.rest in
     record { is = omega arith; most = omega arith }
 

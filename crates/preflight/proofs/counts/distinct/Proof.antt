@@ -3,7 +3,7 @@ use Prim.Native.Nat.{◌-◌}
 use native.Mathlib.Omega.{arith}
 use lib.ListN.{length}
 use borrow.Author.Rules.{rules}
-use Rattle.preflight.proofs.Distinct.{DistinctInv, distinct_starts, distinct-on, distinct_ends}
+use Rattle.preflight.proofs.Distinct.{DistinctInv, distinct_starts, distinct_on, distinct_ends}
 use Rattle.preflight.proofs.counts.distinct.Statement.{statement}
 use Rattle.preflight.proofs.counts.distinct.Tie as tie
 
@@ -28,7 +28,7 @@ add-seen c = omega (arith, c.one-if-absent.ensures.most, (turn c).loop.invariant
 loop-again : tie.Need-loop-preserved invariant_loop decreases_loop
 loop-again c =
     let t = turn c in
-    distinct-on (start t).args.round.now t.loop.seen t.loop.i _ t.loop.inv c.before.before.before.loop-test.true
+    distinct_on (start t).args.round.now t.loop.seen t.loop.i _ t.loop.inv c.before.before.before.loop-test.true
     c.one-if-absent.ensures
 
 returns : tie.Need-returns invariant_loop decreases_loop

@@ -29,7 +29,7 @@ returns c =
     let t = turn c.before in
     let a = (start t).args in
     sym (place_here (other_has (name_given a.new.now) a.name.now a.id) a.round.now t.loop.i c.before.before.before.loop-test.true
-    (sym c.before.other-has.ensures ∙ c.if1.true))
+    (sym c.before.other_has_lem.ensures ∙ c.if1.true))
     ∙ t.loop.inv
 
 loop-again : tie.Need-loop-preserved invariant_loop decreases_loop
@@ -37,7 +37,7 @@ loop-again c =
     let t = turn c.before in
     let a = (start t).args in
     place_on (other_has (name_given a.new.now) a.name.now a.id) a.round.now t.loop.i c.before.before.before.loop-test.true
-    (sym c.before.other-has.ensures ∙ c.if1.false)
+    (sym c.before.other_has_lem.ensures ∙ c.if1.false)
     ∙ t.loop.inv
 
 returns-2 : tie.Need-returns-2 invariant_loop decreases_loop

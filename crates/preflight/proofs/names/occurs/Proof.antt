@@ -5,7 +5,7 @@ use mathlib.Core.Path.{◌≡◌, refl, sym, ◌∙◌}
 use lib.ListN.{length, drop}
 use borrow.Author.Rules.{rules}
 use Rattle.preflight.specs.Ids.{occurs}
-use Rattle.preflight.proofs.Places.{occurs_end, occurs_here, occurs-on}
+use Rattle.preflight.proofs.Places.{occurs_end, occurs_here, occurs_on}
 use Rattle.preflight.proofs.names.occurs.Statement.{statement}
 use Rattle.preflight.proofs.names.occurs.Tie as tie
 
@@ -25,7 +25,7 @@ loop-again : tie.Need-loop-preserved invariant_loop decreases_loop
 loop-again c =
     let turn = c.before.before.before in
     let a = turn.before.args in
-    occurs-on a.id a.ids.now turn.loop.i c.before.before.loop-test.true c.if1.false ∙ turn.loop.invariant
+    occurs_on a.id a.ids.now turn.loop.i c.before.before.loop-test.true c.if1.false ∙ turn.loop.invariant
 
 returns-2 : tie.Need-returns-2 invariant_loop decreases_loop
 returns-2 c =

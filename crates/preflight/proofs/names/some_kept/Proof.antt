@@ -6,7 +6,7 @@ use mathlib.Core.Bool.{true, false}
 use borrow.Author.Rules.{rules}
 use Rattle.reader.specs.Naming.{name_given}
 use Rattle.preflight.specs.Exchanges.{some_kept, some_kept_in}
-use Rattle.preflight.proofs.Walks.{kept_end, kept_turn, kept-start}
+use Rattle.preflight.proofs.Walks.{kept_end, kept_turn, kept_start}
 use Rattle.preflight.proofs.names.some_kept.Statement.{statement}
 use Rattle.preflight.proofs.names.some_kept.Tie as tie
 
@@ -28,7 +28,7 @@ turn c = c.before.before
 loop-holds : tie.Need-loop-init invariant_loop decreases_loop
 loop-holds c =
     let a = (start c).args in
-    kept-start a.old.now _ _ c.before.iter.ensures c.size-hint.ensures a.new.now
+    kept_start a.old.now _ _ c.before.iter.ensures c.size-hint.ensures a.new.now
 
 returns : tie.Need-returns invariant_loop decreases_loop
 returns c =

@@ -1,6 +1,6 @@
--- `reader::lookup::early_miss` meets its contract: by the law `early-miss`. Assumes nothing.
+-- `reader::lookup::early_miss` meets its contract: by the law `early_miss`. Assumes nothing.
 use Rattle.std.proofs.Common.{◌∙◌, arith, rules}
-use Rattle.reader.proofs.EarlyMiss.{early-miss}
+use Rattle.reader.proofs.EarlyMiss.{early_miss}
 use Rattle.reader.proofs.lookup.early_miss.Statement.{statement}
 use Rattle.reader.proofs.lookup.early_miss.Tie as tie
 
@@ -23,7 +23,7 @@ returns-3 c = λ l name.
     let second = second_bucket third in
     let s = second.before.before.before.before in
     let a = s.args in
-    early-miss a.image.now name a.h a.at a.n s.pre
+    early_miss a.image.now name a.h a.at a.n s.pre
     second.next.result third.next2.result c.before.before.before.word3.result c.before.before.word4.result c.before.word5.result
     c.first_zero.result
     second.next.ensures.is third.next2.ensures.is c.before.before.before.word3.ensures c.before.before.word4.ensures

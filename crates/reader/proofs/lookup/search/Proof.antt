@@ -12,7 +12,7 @@ early-miss-requires c κs =
 
 -- an empty bucket near the start decides
 returns : tie.Need-returns
-returns c = sym (c.before.early-miss.ensures (omega arith) c.before.before.before.before.before.args.name.now)
+returns c = sym (c.before.early_miss.ensures (omega arith) c.before.before.before.before.before.args.name.now)
 
 search-rest-requires : tie.Need-search-rest-requires
 search-rest-requires c κs =

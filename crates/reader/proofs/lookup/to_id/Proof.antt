@@ -5,7 +5,7 @@ use Rattle.jhash.specs.NameHash.{outcome, hash_outcome}
 use Rattle.jhash.specs.declared.Hashed.{Hashed}
 use Rattle.jhash.proofs.Outcomes.{result_name_hash, result_refused}
 use Rattle.reader.specs.Lookup.{lookup_hash}
-use Rattle.reader.proofs.Searches.{lookup-by}
+use Rattle.reader.proofs.Searches.{lookup_by_lem}
 use Rattle.reader.proofs.lookup.to_id.Statement.{statement}
 use Rattle.reader.proofs.lookup.to_id.Tie as tie
 
@@ -21,7 +21,7 @@ returns c =
     let a = c.before.before.before.before.before.args in
     let image = a.image.now in
     let name = a.name.now in
-    lookup-by image name true _ (lt-ltb (length image) 2072 c.if1.true) refl
+    lookup_by_lem image name true _ (lt-ltb (length image) 2072 c.if1.true) refl
 
 abbrev start : tie.After-known-told → tie.Start
 start c = c.before.before.before.before.before.before.before.before.before
@@ -45,7 +45,7 @@ returns-2 c =
     ∙ ap (λ (l : List ℕ). lookup_hash l (take (length name - 0) name) h) (whole image)
     ∙ ap (λ (l : List ℕ). lookup_hash image l h) (whole name)
     ∙ ap (lookup_hash image name) told.1
-    ∙ lookup-by image name false false (le-ltb (length image) 2072 of-if1.false) (lt-leb 4294967295 (length name) told.0)
+    ∙ lookup_by_lem image name false false (le-ltb (length image) 2072 of-if1.false) (lt-leb 4294967295 (length name) told.0)
 
 returns-3 : tie.Need-returns-3
 returns-3 c =
@@ -54,7 +54,7 @@ returns-3 c =
     let name = a.name.now in
     let of-if1 = c.before.before.before.if1 in
     let of_hash = c.before.before.name-hash in
-    lookup-by image name false true (le-ltb (length image) 2072 of-if1.false)
+    lookup_by_lem image name false true (le-ltb (length image) 2072 of-if1.false)
     (le-leb 4294967295 (length name)
     (result_refused name 0 of_hash.result (of_name name of_hash.result of_hash.ensures) c.enum_told.given.1))
 

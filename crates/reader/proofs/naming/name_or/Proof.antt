@@ -2,7 +2,7 @@
 use Rattle.std.proofs.Common.{sym, ap, ◌∙◌, arith, rules}
 use Rattle.reader.specs.Slices.{slice}
 use Rattle.reader.specs.Cases.{naming_of}
-use Rattle.reader.proofs.Namings.{named, named_slice, no-slice}
+use Rattle.reader.proofs.Namings.{named, named_slice, no_slice}
 use Rattle.reader.proofs.naming.name_or.Statement.{statement}
 use Rattle.reader.proofs.naming.name_or.Tie as tie
 
@@ -32,7 +32,7 @@ returns-2 : tie.Need-returns-2
 returns-2 c =
     let a = c.before.before.before.before.before.args in
     let of-to-str = c.before.before.to-str in
-    no-slice (slice a.image) (slice a.stand-in) _ (ap naming_of (sym c.enum_told.given.1) ∙ of-to-str.ensures)
+    no_slice (slice a.image) (slice a.stand-in) _ (ap naming_of (sym c.enum_told.given.1) ∙ of-to-str.ensures)
 
 pub name_or_spec : {M : Type 1} → statement M
 name_or_spec =

@@ -3,7 +3,7 @@
 use Rattle.std.proofs.Common.{◌≡◌, ℕ, ◌+◌, ◌-◌, ◌/◌, ◌%◌, ◌^◌, ◌<◌, ◌≤◌, sym, refl, ap, ◌∙◌, zero-add, arith, rules}
 use Rattle.image.specs.Head.{bucket_number}
 use Rattle.reader.specs.Open.{some_past_end, num_from}
-use Rattle.reader.proofs.Opens.{TablesInv, num_from-step, num_from-none, past_end_pass, past_end_none, sum_step, sum_end}
+use Rattle.reader.proofs.Opens.{TablesInv, num_from_step, num_from_none, past_end_pass, past_end_none, sum_step, sum_end}
 use Rattle.reader.proofs.opening.all_tables.Statement.{statement}
 use Rattle.reader.proofs.opening.all_tables.Tie as tie
 
@@ -40,7 +40,7 @@ loop-again c =
       rows = omega arith;
       num_small = omega (arith, added.num_is);
       sum = sum_step of-loop.all.num (bucket_number image t / 2) c.with-table.result.num (num_from image (t + 1) (256 - (t + 1)))
-          (num_from image t (256 - t)) (num_from image 0 256) inv.sum (num_from-step image t 256 h)
+          (num_from image t (256 - t)) (num_from image 0 256) inv.sum (num_from_step image t 256 h)
           (added.num_is ∙ ap (λ (n : ℕ). (of-loop.all.num + n / 2) % 2 ^ 32) c.before.word2.ensures);
       past_end = λ k.
           past_end_pass image t 256 of_word.result c.before.word2.result h of_word.ensures c.before.word2.ensures (added.fits k).inside
@@ -56,7 +56,7 @@ returns c =
     let e : t ≡ 256 = omega arith in
     record {
       num_is = sum_end c.before.loop.all.num (num_from image t (256 - t)) (num_from image 0 256) inv.num_small inv.sum
-          (ap (λ (k : ℕ). num_from image k (256 - k)) e ∙ num_from-none image 256);
+          (ap (λ (k : ℕ). num_from image k (256 - k)) e ∙ num_from_none image 256);
       none_past_end = λ k. sym (inv.past_end k) ∙ ap (λ (k : ℕ). some_past_end image k (256 - k)) e ∙ past_end_none image 256;
     }
 

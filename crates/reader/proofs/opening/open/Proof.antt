@@ -86,7 +86,7 @@ returns-6 : tie.Need-returns-6
 returns-6 c =
     let passed4 = c.before.before.before.before in
     let image = image_of passed4 in
-    ap value passed4.before.before.all-tables.ensures.num_is
+    ap value passed4.before.before.all_tables.ensures.num_is
     ∙ passed passed4 false
     (ap (λ (t : Bool). ltb 0 (word image 20) && t) (sym c.before.back-past-end.ensures ∙ c.if6.false) ∙ and-false (ltb 0 (word image 20)))
 
@@ -94,7 +94,7 @@ returns-7 : tie.Need-returns-7
 returns-7 c =
     let passed4 = c.before.before in
     let image = image_of passed4 in
-    ap value passed4.before.before.all-tables.ensures.num_is
+    ap value passed4.before.before.all_tables.ensures.num_is
     ∙ passed passed4 false
     (ap (λ (t : Bool). t && back_past_end image) (le-ltb 0 (word image 20) (omega (arith, c.before.word2.ensures))))
 

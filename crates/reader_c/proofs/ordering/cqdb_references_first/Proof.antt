@@ -44,7 +44,7 @@ use Rattle.order.specs.contracts.Order as O
 use Rattle.order.proofs.Order.TheLaws as O'
 use Rattle.order.specs.contracts.references_first as scan
 use Rattle.order.proofs.references_first.Symbol as scan-def
-use Rattle.order.proofs.references_first.Symbol.{name as #order·references-first}
+use Rattle.order.proofs.references_first.Symbol.{name as #order·references_first}
 use Rattle.order.proofs.references_first.Met as scan-thm
 use Rattle.reader_c.specs.OrderAnswer.{order_answer}
 use Rattle.reader_c.specs.declared.ordering.OrderAnswer.{OrderAnswer}
@@ -115,8 +115,8 @@ module _ {M : Type 1} {𝓤 : Ura M} (𝓛 : Logic 𝓤) (mem : Memory → SProp
   abbrev to_answer : Order → Val → (Answer 𝓛 mem run).Ghost
   to_answer r v = ((tt, tt, tt, (r, tt), (v ∷ [], tt)), tt)
 
-  answer-asked : (r : Order) (v : Val) → ent 𝓤 (sem 𝓛 ((O.the_row).own_val r (v ∷ []))) ((Answer 𝓛 mem run).pre (to_answer r v))
-  answer-asked r v =
+  answer_asked : (r : Order) (v : Val) → ent 𝓤 (sem 𝓛 ((O.the_row).own_val r (v ∷ []))) ((Answer 𝓛 mem run).pre (to_answer r v))
+  answer_asked r v =
       qed 𝓛 (‵ ((O.the_row).own_val r (v ∷ [])) ∷ []) ∵ nothing ! $ move ! (1 ∷ 0 ∷ []) $ join ! $ nothing ! $ join ! $ frame ! $ done !
 
   abbrev Answered : Order → OrderAnswer → SProp 𝓤
@@ -134,7 +134,7 @@ module _ {M : Type 1} {𝓤 : Ura M} (𝓛 : Logic 𝓤) (mem : Memory → SProp
       move ! (1 ∷ []) $ frame ! $ nothing ! $ nothing ! $ fjoin ! $ nothing ! $ fjoin ! $ frame ! $ done !
 
   module _ (𝓣 : Tables 𝓤 H)
-      (known : Triple 𝓤 (𝓣.C #order·references-first) (Scan 𝓛 mem run)) (known' : Triple 𝓤 (𝓣.C #reader_c·ordering·answer) (Answer 𝓛 mem run)) where
+      (known : Triple 𝓤 (𝓣.C #order·references_first) (Scan 𝓛 mem run)) (known' : Triple 𝓤 (𝓣.C #reader_c·ordering·answer) (Answer 𝓛 mem run)) where
     abbrev lent : List Val
     lent = slice_val x.ref_ptr (length x.now) ∷ slice_val y.ref_ptr (length y.now) ∷ []
 
@@ -154,7 +154,7 @@ module _ {M : Type 1} {𝓤 : Ura M} (𝓛 : Logic 𝓤) (mem : Memory → SProp
         split ! $ move ! (1 ∷ []) $ peeks ! O.the_row (Is O.the_row) (shows 𝓛 O.the_row) r (u ∷ []) (λ is.
         -- the call of `answer` into _0: [the result; the tokens; room for _3; …; _2; …; _1; …; room for _0; …]
         land ! (from ! (stop !)) (init ! 2 refl ((EL.lawful O.the_type O'.the_laws 𝓛 tt).typed r _ is).0) $
-        use1 𝓛 (raw ((Answer 𝓛 mem run).pre (to_answer r u))) (answer-asked r u) $
+        use1 𝓛 (raw ((Answer 𝓛 mem run).pre (to_answer r u))) (answer_asked r u) $
         calls_at ! (fm_of 𝓤 H 𝓛.laws 𝓣) (Answer 𝓛 mem run) known' (to_answer r u)
         (and_then ! (load ! (from ! (stop !)) (look ! 2 refl)) (no_more !)) (λ v.
         use1 𝓛 (later (some (λ (a : OrderAnswer). (‵ ftrue ⊛ ‵ ((S.the_row).own_val a (v ∷ []))) ⊛ raw (Answered r a)))) (id⊢ 𝓤 _) $
@@ -168,7 +168,7 @@ module _ {M : Type 1} {𝓤 : Ura M} (𝓛 : Logic 𝓤) (mem : Memory → SProp
         by ! (exits a v (e' ∙ ap order_answer e))))))))))))))
 
 module _ {M : Type 1} {𝓤 : Ura M} (𝓛 : Logic 𝓤) (mem : Memory → SProp 𝓤) (run : Routine → Fun 𝓤) (𝓣 : Tables 𝓤 𝓛.H)
-    (known : Triple 𝓤 (𝓣.C #order·references-first) (Scan 𝓛 mem run)) (known' : Triple 𝓤 (𝓣.C #reader_c·ordering·answer) (Answer 𝓛 mem run)) where
+    (known : Triple 𝓤 (𝓣.C #order·references_first) (Scan 𝓛 mem run)) (known' : Triple 𝓤 (𝓣.C #reader_c·ordering·answer) (Answer 𝓛 mem run)) where
   open 𝓛 use {H}
 
   walks : Walks 𝓛 this.ended stayed (WpFn 𝓤 H 𝓣.C 𝓣.Λ code.function) (this.clauses 𝓛 mem run)
@@ -195,6 +195,6 @@ cqdb_references_first_spec 𝓤 𝓛 𝓜 𝓡 =
     (tables 𝓤 𝓛.H 𝓜 𝓡 code.env).C (tables 𝓤 𝓛.H 𝓜 𝓡 code.env).Λ #this code.function (code.unfolded 𝓤 𝓛.H 𝓜 𝓡)
     (meets 𝓛 𝓜.mem 𝓡.run (tables_of 𝓤 𝓛.H 𝓜 (tables 𝓤 𝓛.H 𝓜 𝓡 code.env))
     (cited 𝓤 𝓛.H (Scan 𝓛 𝓜.mem 𝓡.run) 𝓜 𝓡 code.env
-    #order·references-first scan-def.routine code.calls-order::references-first (scan-thm.met 𝓤 𝓛 𝓜 𝓡))
+    #order·references_first scan-def.routine code.calls-order::references_first (scan-thm.met 𝓤 𝓛 𝓜 𝓡))
     (cited 𝓤 𝓛.H (Answer 𝓛 𝓜.mem 𝓡.run) 𝓜 𝓡 code.env
     #reader_c·ordering·answer answer-def.routine code.calls-reader-c::ordering::answer (answer-thm.met 𝓤 𝓛 𝓜 𝓡)))

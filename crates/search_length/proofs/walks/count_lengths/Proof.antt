@@ -9,7 +9,7 @@ use Rattle.image.specs.Tally.{one_more}
 use Rattle.reader.specs.Cases.{reads}
 use Rattle.reader.specs.Lookup.{lookup}
 use Rattle.canonical.proofs.EntriesAhead.{Ahead, Turn, turn, ahead_starts, ahead_ends, inside, name_is, ahead_next}
-use Rattle.search_length.proofs.Histogram.{Counting, counting_starts, counting-next, counting_ends}
+use Rattle.search_length.proofs.Histogram.{Counting, counting_starts, counting_next, counting_ends}
 use Rattle.search_length.proofs.walks.count_lengths.Statement.{statement}
 use Rattle.search_length.proofs.walks.count_lengths.Tie as tie
 
@@ -81,7 +81,7 @@ loop-again c =
     let l = in_loop b in
     let len = b.before.before.before.size-or-zero.ensures.is in
     ahead_next (this l) len
-    (counting-next (this l).holds l.loop-test.taken b.buckets.result _ (omega (arith, b.buckets.ok))
+    (counting_next (this l).holds l.loop-test.taken b.buckets.result _ (omega (arith, b.buckets.ok))
     (b.buckets.ensures
     ∙ ap reads (b.before.to-id.ensures ∙ ap (lookup (start l).args.image.now) (name_is (this l) len b.before.before.name_at.ensures)))
     (c.raise-at.ensures ∙ ap (λ (k : ℕ). one_more l.before.loop.counts k) c.before.before.bin-of.ensures.is))

@@ -1,7 +1,7 @@
 -- `serialize::head::clear_bytes` meets its contract. Assumes nothing.
 use Rattle.std.proofs.Common.{◌≡◌, ℕ, ◌-◌, ◌≤◌, List, length, replicate, refl, arith, length-set, rules}
 use lib.Seq.{sets}
-use Rattle.serialize.proofs.HeadStores.{zero-step, zero_end}
+use Rattle.serialize.proofs.HeadStores.{zero_step, zero_end}
 use Rattle.serialize.proofs.head.clear_bytes.Statement.{statement}
 use Rattle.serialize.proofs.head.clear_bytes.Tie as tie
 
@@ -23,7 +23,7 @@ loop-again c =
     record {
       inside = omega arith;
       long = simp length-set l.invariant.long;
-      leaves = zero-step l.buf _ l.i c.before.before.args.to c.loop-test.true l.invariant.leaves;
+      leaves = zero_step l.buf _ l.i c.before.before.args.to c.loop-test.true l.invariant.leaves;
     }
 
 returns : tie.Need-returns invariant_loop decreases_loop

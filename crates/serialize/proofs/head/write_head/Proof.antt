@@ -13,7 +13,7 @@ returns c =
     let second = third.before.before.before.before in
     let first = second.before.before.before.before in
     let a = first.before.before.before.args in
-    head_stored a.buf.now a.size a.flag a.back a.back-offset first.store-word-clipped.ensures
+    head_stored a.buf.now a.size a.flag a.back a.back_offset_lem first.store-word-clipped.ensures
     second.store-word-clipped2.ensures third.store-word-clipped3.ensures
     fourth.store-word-clipped4.ensures fifth.store-word-clipped5.ensures sixth.store-word-clipped6.ensures
 

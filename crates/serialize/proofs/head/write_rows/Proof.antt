@@ -2,7 +2,7 @@
 use Rattle.std.proofs.Common.{◌≡◌, ℕ, ◌+◌, ◌-◌, ◌*◌, ◌≤◌, List, length, refl, ◌∙◌, arith, rules}
 use lib.Seq.{sets}
 use Rattle.serialize.specs.Steps.Partition.{table_offsets_from}
-use Rattle.serialize.specs.Steps.Written.{rows_from}
+use Rattle.serialize.specs.Steps.Written.{rows_from_lem}
 use Rattle.serialize.proofs.HeadStores.{rows_step, rows_end}
 use Rattle.serialize.proofs.PartitionSteps.{table_offsets_step, table_offsets_end}
 use Rattle.serialize.proofs.head.write_rows.Statement.{statement}
@@ -12,7 +12,7 @@ use Rattle.serialize.proofs.head.write_rows.Tie as tie
 record Storing (counts : List ℕ) (end : ℕ) (buf₀ places₀ buf places : List ℕ) (o t : ℕ) : Type 0 where
   most : t ≤ 256
   long : length buf ≡ length buf₀
-  rows : sets buf (24 + 8 * t) (rows_from counts o t (256 - t)) ≡ sets buf₀ 24 (rows_from counts end 0 256)
+  rows : sets buf (24 + 8 * t) (rows_from_lem counts o t (256 - t)) ≡ sets buf₀ 24 (rows_from_lem counts end 0 256)
   begins : sets places t (table_offsets_from counts o t (256 - t)) ≡ sets places₀ 0 (table_offsets_from counts end 0 256)
   near : o ≤ 4294967296 * (1 + 16 * t)
 

@@ -1,7 +1,7 @@
 -- `serialize::insert::first_without_equal` meets its contract. The loop's invariant: the probe sequence that is left tells what the whole one tells,
 -- whatever the names. Assumes nothing.
 use Rattle.std.proofs.Common.{ℕ, ◌+◌, ◌*◌, ◌≤◌, Bool, true, length, sym, ◌∙◌, subst, arith, rules}
-use Rattle.lookup_laws.proofs.SlotSearch.{Remaining, remaining_start, remaining_step, first-empty, none_matches}
+use Rattle.lookup_laws.proofs.SlotSearch.{Remaining, remaining_start, remaining_step, first_empty_lem, none_matches}
 use Rattle.serialize.specs.Steps.Meeting.{bucket_at}
 use Rattle.serialize.proofs.insert.first_without_equal.Statement.{statement}
 use Rattle.serialize.proofs.insert.first_without_equal.Tie as tie
@@ -32,7 +32,7 @@ returns c end at below =
     let l = test.before.loop in
     let empty = sym c.before.word.ensures ∙ c.if1.true in
     record {
-      first = record { is = first-empty (l.invariant (λ x. true)) test.loop-test.true empty; inside = (l.invariant (λ x. true)).inside };
+      first = record { is = first_empty_lem (l.invariant (λ x. true)) test.loop-test.true empty; inside = (l.invariant (λ x. true)).inside };
       unmet = λ z. none_matches (l.invariant _) test.loop-test.true empty;
     }
 

@@ -1,6 +1,6 @@
 -- `serialize::insert::insert_beside` meets its contract. Assumes nothing.
 use Rattle.std.proofs.Common.{arith, rules}
-use Rattle.serialize.proofs.Insertion.{pair-inserted}
+use Rattle.serialize.proofs.Insertion.{pair_inserted}
 use Rattle.serialize.proofs.insert.insert_beside.Statement.{statement}
 use Rattle.serialize.proofs.insert.insert_beside.Tie as tie
 
@@ -8,7 +8,7 @@ returns : tie.Need-returns
 returns c =
     let found = c.before.before.before.before in
     let a = found.before.before.before.args in
-    pair-inserted a.buf.now a.end a.o a.n a.h a.at found.probe.result.bucket found.probe.ensures
+    pair_inserted a.buf.now a.end a.o a.n a.h a.at found.probe.result.bucket found.probe.ensures
     c.before.before.store_pair.ensures (omega arith) (omega arith)
 
 pub insert_beside_spec : {M : Type 1} → statement M

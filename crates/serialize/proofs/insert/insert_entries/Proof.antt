@@ -1,15 +1,15 @@
 -- `serialize::insert::insert_entries` meets its contract. Assumes nothing.
 use Rattle.std.proofs.Common.{◌+◌, ◌<◌, ◌≤◌, refl, arith, rules}
 use Rattle.serialize.specs.Steps.Insertion.{EntryPre}
-use Rattle.serialize.proofs.Insertion.{not_met, stopped, entry_in, Inserting, inserted-broken, inserted-step, inserted-all}
+use Rattle.serialize.proofs.Insertion.{not_met, stopped, entry_in, Inserting, inserted_broken, inserted_step, inserted_all}
 use Rattle.serialize.proofs.insert.insert_entries.Statement.{statement}
 use Rattle.serialize.proofs.insert.insert_entries.Tie as tie
 
 abbrev invariant_loop : tie.invariant_loop
-invariant_loop mode back-offset buf₀ end entries stop at₀ left₀ met₀ buf at left met = Inserting mode back-offset end entries buf₀ buf at left met
+invariant_loop mode back_offset_lem buf₀ end entries stop at₀ left₀ met₀ buf at left met = Inserting mode back_offset_lem end entries buf₀ buf at left met
 
 abbrev decreases_loop : tie.decreases_loop
-decreases_loop mode back-offset buf₀ end entries stop at₀ left₀ met₀ buf at left met = left
+decreases_loop mode back_offset_lem buf₀ end entries stop at₀ left₀ met₀ buf at left met = left
 
 -- the entry that was read lies before the end
 entry : (c : tie.Else1 invariant_loop decreases_loop)
@@ -23,7 +23,7 @@ entry c =
 
 returns : tie.Need-returns invariant_loop decreases_loop
 returns c =
-    inserted-broken c.before.before.before.before.loop.invariant c.before.before.before.loop-test.true
+    inserted_broken c.before.before.before.before.loop.invariant c.before.before.before.loop-test.true
     c.before.whole_length.ensures.is _ c.if1.true
 
 returns-2 : tie.Need-returns-2 invariant_loop decreases_loop
@@ -54,7 +54,7 @@ loop-again : tie.Need-loop-preserved invariant_loop decreases_loop
 loop-again c =
     let e = read c.before.before.before in
     let done = c.before.before.before.insert_entry in
-    inserted-step e.before.before.before.before.loop.inv e.before.before.before.loop-test.taken e.before.whole_length.ensures.is
+    inserted_step e.before.before.before.before.loop.inv e.before.before.before.loop-test.taken e.before.whole_length.ensures.is
     e.if1.left
     (entry e).0 done.new.1.1.0 done.auto.1.1.0 done.ensures
 
@@ -77,4 +77,4 @@ insert_entries_spec =
     (λ c. omega arith)
     loop-again
     (λ c. search rules)
-    (λ c. inserted-all c.before.loop.invariant _ (omega arith)))
+    (λ c. inserted_all c.before.loop.invariant _ (omega arith)))

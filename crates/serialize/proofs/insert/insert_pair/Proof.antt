@@ -1,6 +1,6 @@
 -- `serialize::insert::insert_pair` meets its contract. Assumes nothing.
 use Rattle.std.proofs.Common.{arith, rules}
-use Rattle.serialize.proofs.Insertion.{pair-inserted}
+use Rattle.serialize.proofs.Insertion.{pair_inserted}
 use Rattle.serialize.proofs.insert.insert_pair.Statement.{statement}
 use Rattle.serialize.proofs.insert.insert_pair.Tie as tie
 
@@ -9,7 +9,7 @@ returns c =
     let test = c.before.before.before.before in
     let found = test.before.first-without-equal in
     let a = test.before.before.before.before.args in
-    pair-inserted a.buf.now a.end a.o a.n a.h a.at found.result (found.ensures a.end a.at test.if1.true)
+    pair_inserted a.buf.now a.end a.o a.n a.h a.at found.result (found.ensures a.end a.at test.if1.true)
     c.before.before.store_pair.ensures (omega arith) (omega arith)
 
 pub insert_pair_spec : {M : Type 1} → statement M

@@ -1,6 +1,6 @@
 -- `serialize::insert::probe` meets its contract. The loop's invariant: the probe sequence that is left tells what the whole one tells. Assumes nothing.
 use Rattle.std.proofs.Common.{◌≡◌, ℕ, ◌+◌, ◌*◌, ◌≤◌, false, length, take, sym, ◌∙◌, subst, ⊎_elim, arith, length-take, rules}
-use Rattle.lookup_laws.proofs.SlotSearch.{Remaining, remaining_start, remaining_step, first-empty, none_matches}
+use Rattle.lookup_laws.proofs.SlotSearch.{Remaining, remaining_start, remaining_step, first_empty_lem, none_matches}
 use Rattle.serialize.specs.Steps.Meeting.{bucket_at, same_names}
 use Rattle.serialize.proofs.Insertion.{restarted}
 use Rattle.serialize.proofs.insert.probe.Statement.{statement}
@@ -41,7 +41,7 @@ returns c =
     let l = test.before.loop in
     let empty : (bucket_at a.buf.now a.o l.k).at ≡ 0 = sym c.before.word.ensures ∙ c.if1.true in
     record {
-      first = record { is = first-empty l.invariant test.loop-test.true empty; inside = l.invariant.inside };
+      first = record { is = first_empty_lem l.invariant test.loop-test.true empty; inside = l.invariant.inside };
       unmet = λ z. none_matches l.invariant test.loop-test.true empty;
     }
 
@@ -49,7 +49,7 @@ returns-2 : tie.Need-returns-2 invariant_loop decreases_loop
 returns-2 c =
     let begun = c.before.before.before.before.before.before.before.before.before.before in
     let a = begun.before.before.args in
-    restarted a.buf.now a.end a.o a.n a.h a.at _ _ begun.start.ensures c.first-empty.ensures
+    restarted a.buf.now a.end a.o a.n a.h a.at _ _ begun.start.ensures c.first_empty_lem.ensures
 
 loop-again : tie.Need-loop-preserved invariant_loop decreases_loop
 loop-again c =

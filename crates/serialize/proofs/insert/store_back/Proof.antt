@@ -9,7 +9,7 @@ returns : tie.Need-returns
 returns c =
     let a = c.before.before.before.before.before.before.before.args in
     c.before.before.store-word-clipped.ensures
-    ∙ ap (λ (m : Mode). back_stored m a.buf.now a.back-offset a.id a.at) (sym c.before.before.before.before.enum_told.given.1)
+    ∙ ap (λ (m : Mode). back_stored m a.buf.now a.back_offset_lem a.id a.at) (sym c.before.before.before.before.enum_told.given.1)
 
 pub store_back_spec : {M : Type 1} → statement M
 store_back_spec =

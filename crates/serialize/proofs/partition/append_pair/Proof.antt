@@ -1,5 +1,5 @@
 -- `serialize::partition::append_pair` meets its contract. Assumes nothing.
-use Rattle.serialize.proofs.PartitionSteps.{pair-appended}
+use Rattle.serialize.proofs.PartitionSteps.{pair_appended}
 use Rattle.std.proofs.Common.{rules}
 use Rattle.serialize.proofs.partition.append_pair.Statement.{statement}
 use Rattle.serialize.proofs.partition.append_pair.Tie as tie
@@ -7,7 +7,7 @@ use Rattle.serialize.proofs.partition.append_pair.Tie as tie
 returns : tie.Need-returns
 returns c =
     let a = c.before.before.before.before.before.before.before.args in
-    pair-appended a.places.now a.buf.now a.h a.at _ c.before.before.before.put-pair.ensures c.wrapping-add-u32.ensures
+    pair_appended a.places.now a.buf.now a.h a.at _ c.before.before.before.put-pair.ensures c.wrapping-add-u32.ensures
 
 pub append_pair_spec : {M : Type 1} → statement M
 append_pair_spec =

@@ -2,15 +2,15 @@
 use Rattle.std.proofs.Common.{◌+◌, ◌<◌, ◌≤◌, refl, arith, rules}
 use Rattle.serialize.specs.Steps.Insertion.{EntryPre}
 use Rattle.serialize.proofs.Insertion.{entry_in}
-use Rattle.serialize.proofs.PartitionSteps.{Partitioning, partitioned-broken, partitioned-step, partitioned-all}
+use Rattle.serialize.proofs.PartitionSteps.{Partitioning, partitioned_broken, partitioned_step, partitioned_all}
 use Rattle.serialize.proofs.partition.partition_entries.Statement.{statement}
 use Rattle.serialize.proofs.partition.partition_entries.Tie as tie
 
 abbrev invariant_loop : tie.invariant_loop
-invariant_loop mode back-offset buf₀ places₀ end entries at₀ left₀ buf places at left = Partitioning mode back-offset end entries places₀ buf₀ places buf at left
+invariant_loop mode back_offset_lem buf₀ places₀ end entries at₀ left₀ buf places at left = Partitioning mode back_offset_lem end entries places₀ buf₀ places buf at left
 
 abbrev decreases_loop : tie.decreases_loop
-decreases_loop mode back-offset buf₀ places₀ end entries at₀ left₀ buf places at left = left
+decreases_loop mode back_offset_lem buf₀ places₀ end entries at₀ left₀ buf places at left = left
 
 -- ---- places in the code, each told from a later one
 
@@ -41,7 +41,7 @@ entry c =
 returns : tie.Need-returns invariant_loop decreases_loop
 returns c =
     let e = c.before.before.before in
-    partitioned-broken e.before.loop.invariant e.loop-test.true c.before.whole_length.ensures.is c.if1.true
+    partitioned_broken e.before.loop.invariant e.loop-test.true c.before.whole_length.ensures.is c.if1.true
 
 -- the place behind it is a word
 next_word : (c : tie.After-partition-entry invariant_loop decreases_loop)
@@ -54,7 +54,7 @@ loop-again c =
     let e = read p in
     let done = p.partition-entry in
     let h = p.before.before.before in
-    partitioned-step (entered e).before.loop.inv (entered e).loop-test.taken e.before.whole_length.ensures.is e.if1.left
+    partitioned_step (entered e).before.loop.inv (entered e).loop-test.taken e.before.whole_length.ensures.is e.if1.left
     (entry e).0 done.new.1.1.1.0 done.new.1.1.0 done.auto.1.1.0 h.before.before.word-or-zero.ensures h.entry-hash.ensures
     done.ensures
 
@@ -78,4 +78,4 @@ partition_entries_spec =
     (λ c. omega (arith, (entered (read c.before.before)).loop-test.taken))
     loop-again
     (λ c. search rules)
-    (λ c. partitioned-all c.before.loop.invariant (omega (arith, c.loop-test.false))))
+    (λ c. partitioned_all c.before.loop.invariant (omega (arith, c.loop-test.false))))

@@ -8,7 +8,7 @@ returns : tie.Need-returns
 returns c =
     let appended = c.before.before.before.before.before.before in
     let a = appended.before.before.before.before.args in
-    entry_partitioned a.mode a.back-offset a.at a.id a.h a.places.now a.buf.now appended.append-pair.ensures
+    entry_partitioned a.mode a.back_offset_lem a.at a.id a.h a.places.now a.buf.now appended.append-pair.ensures
     c.before.before.store-back.ensures
 
 pub partition_entry_spec : {M : Type 1} → statement M

@@ -1,13 +1,13 @@
 -- `serialize::partition::put_pair` meets its contract. Assumes nothing.
 use Rattle.std.proofs.Common.{rules}
-use Rattle.serialize.proofs.PartitionSteps.{pair_put, pair_left}
+use Rattle.serialize.proofs.PartitionSteps.{pair_put_lem, pair_left}
 use Rattle.serialize.proofs.partition.put_pair.Statement.{statement}
 use Rattle.serialize.proofs.partition.put_pair.Tie as tie
 
 returns : tie.Need-returns
 returns c =
     let a = c.before.before.before.before.before.before.args in
-    pair_put a.buf.now a.at a.h a.offset c.before.before.before.before.if1.true c.before.before.store_pair.ensures
+    pair_put_lem a.buf.now a.at a.h a.offset c.before.before.before.before.if1.true c.before.before.store_pair.ensures
 
 returns-2 : tie.Need-returns-2
 returns-2 c =

@@ -19,7 +19,7 @@ returns : tie.Need-returns
 returns c =
     let cleared = c.before.before.before.before.before.before in
     let a = cleared.before.before.before.args in
-    inserted_in a.mode a.back-offset a.end a.entries a.size a.buf.now cleared.clear-bytes.ensures
+    inserted_in a.mode a.back_offset_lem a.end a.entries a.size a.buf.now cleared.clear-bytes.ensures
     c.before.before.insert-entries.ensures
 
 pub insert_singly_spec : {M : Type 1} → statement M

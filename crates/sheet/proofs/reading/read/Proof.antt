@@ -11,7 +11,7 @@ use Rattle.sheet.specs.declared.SectionPlace.{SectionPlace}
 use Rattle.sheet.specs.declared.Sheet.{Sheet}
 use Rattle.sheet.proofs.Sections.{found_inside}
 use Rattle.sheet.proofs.Sheets.{short_references, short_walls, short_retired, all_three}
-use Rattle.sheet.proofs.Files.{reading_short, reading-left, reading-whole}
+use Rattle.sheet.proofs.Files.{reading_short, reading_left, reading_whole}
 use borrow.Author.Rules.{rules}
 use Rattle.sheet.proofs.reading.read.Statement.{statement}
 use Rattle.sheet.proofs.reading.read.Tie as tie
@@ -104,12 +104,12 @@ end-of-requires-3 c κs = omega (arith, inside_3 c, (one (two c)).before.before.
 returns-4 : tie.Need-returns-4
 returns-4 c =
     let at = c.before.before in
-    sym (reading-left (file (one (two at))) (parts at) (three at) (omega (arith, c.before.end-of3.ensures)))
+    sym (reading_left (file (one (two at))) (parts at) (three at) (omega (arith, c.before.end-of3.ensures)))
 
 returns-5 : tie.Need-returns-5
 returns-5 c =
     let at = c.before.before in
-    sym (reading-whole (file (one (two at))) (parts at) (three at) (omega (arith, c.before.end-of3.ensures)))
+    sym (reading_whole (file (one (two at))) (parts at) (three at) (omega (arith, c.before.end-of3.ensures)))
 
 pub read_spec : {M : Type 1} → statement M
 read_spec =

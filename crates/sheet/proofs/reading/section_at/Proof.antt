@@ -3,7 +3,7 @@ use Prim.Native.Nat.{ℕ, ◌+◌}
 use native.Mathlib.Omega.{arith}
 use mathlib.Core.Path.{sym, ap, ◌∙◌}
 use Rattle.jhash.specs.Outcome.{value}
-use Rattle.sheet.proofs.Sections.{no-count, no-ids, lies}
+use Rattle.sheet.proofs.Sections.{no_count, no_ids, lies}
 use borrow.Author.Rules.{rules}
 use Rattle.sheet.proofs.reading.section_at.Statement.{statement}
 use Rattle.sheet.proofs.reading.section_at.Tie as tie
@@ -11,12 +11,12 @@ use Rattle.sheet.proofs.reading.section_at.Tie as tie
 returns : tie.Need-returns
 returns c =
     let a = c.before.before.args in
-    sym (no-count a.file.now a.at (omega arith))
+    sym (no_count a.file.now a.at (omega arith))
 
 returns-2 : tie.Need-returns-2
 returns-2 c =
     let a = c.before.before.before.before.args in
-    sym (no-ids a.file.now a.at (omega arith) (omega (arith, c.before.count_at.ensures)))
+    sym (no_ids a.file.now a.at (omega arith) (omega (arith, c.before.count_at.ensures)))
 
 returns-3 : tie.Need-returns-3
 returns-3 c =

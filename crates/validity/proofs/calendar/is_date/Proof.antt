@@ -3,7 +3,7 @@ use mathlib.Core.Path.{ap, ◌∙◌}
 use lib.Dec.{leb}
 use borrow.Author.Tests.{le-leb, lt-leb}
 use Rattle.validity.specs.Calendar.{is_date}
-use Rattle.validity.proofs.Dates.{by_last-day}
+use Rattle.validity.proofs.Dates.{by_last_day}
 use borrow.Author.Rules.{rules}
 use Rattle.validity.proofs.calendar.is_date.Statement.{statement}
 use Rattle.validity.proofs.calendar.is_date.Tie as tie
@@ -30,7 +30,7 @@ returns-4 c =
     let from-1900 = to-2199.before.before in
     let d = from-1900.before.before.args.d in
     ap (leb d.day) c.before.month-length.ensures
-    ∙ by_last-day d from-1900.if1.false to-2199.if2.false from-1.if3.false
+    ∙ by_last_day d from-1900.if1.false to-2199.if2.false from-1.if3.false
 
 pub is_date_spec : {M : Type 1} → statement M
 is_date_spec = tie.close (tie.spec returns returns-2 returns-3 (λ c κs. search rules) returns-4)

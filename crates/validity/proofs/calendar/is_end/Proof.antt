@@ -23,8 +23,8 @@ unfolding is_end
 returns-3 c =
     let same-year = c.before.before in
     let first-test = same-year.before.before in
-    let no-date = sym first-test.before.is-date.ensures ∙ first-test.if1.false in
-    simp (no-date, eq-eqb _ _ same-year.if2.false, ne_eqb _ _ c.if3.true)
+    let no_date = sym first-test.before.is-date.ensures ∙ first-test.if1.false in
+    simp (no_date, eq-eqb _ _ same-year.if2.false, ne_eqb _ _ c.if3.true)
 
 returns-4 : tie.Need-returns-4
 returns-4 c =

@@ -96,11 +96,11 @@ in_order =
     2 ∷ 3 ∷ 4 ∷ 5 ∷ 6 ∷ 7 ∷ 8 ∷ 9 ∷ 10 ∷ 11 ∷ 12 ∷ 13 ∷ 14 ∷ 15 ∷ 16 ∷ 17 ∷ 18 ∷ 19 ∷ 20 ∷ 21 ∷ 1 ∷ 0 ∷ []
 
 -- what stands past the end of a list of windows
-abbrev no-date : Date
-no-date = record { year = 0; month = 0; day = 0 }
+abbrev no_date : Date
+no_date = record { year = 0; month = 0; day = 0 }
 
 abbrev none : Window
-none = record { id = 0; first = no-date; end = no-date }
+none = record { id = 0; first = no_date; end = no_date }
 
 abbrev window_vals : Window → List Val
 window_vals = LL.vals P.the_type P'.the_laws

@@ -12,7 +12,7 @@ returns c =
     ap₂ {C = Record}
     (λ (m r : ℕ). record { mode = m; repeats = r; entries = w.entries; back = w.back; length = w.length; end = w.end })
     c.before.flag_word.ensures
-    c.repeats-word.ensures
+    c.repeats_word_lem.ensures
 
 pub record_of_spec : {M : Type 1} → statement M
 record_of_spec = tie.close (tie.spec (λ c κs. search rules) (λ c κs. search rules) returns)

@@ -5,7 +5,7 @@ use mathlib.Core.Path.{◌≡◌, sym, ◌∙◌}
 use Rattle.writer.specs.State.{state_with}
 use Rattle.writer.specs.Steps.Earlier.{walk_refusal}
 use Rattle.writer.proofs.Agree.{zeros}
-use Rattle.writer.proofs.Earlier.{not-whole, other_counts, other_back, by_name}
+use Rattle.writer.proofs.Earlier.{not_whole, other_counts, other_back, by_name}
 use borrow.Author.Rules.{rules}
 use Rattle.writer.proofs.check.walk_refusal.Statement.{statement}
 use Rattle.writer.proofs.check.walk_refusal.Tie as tie
@@ -20,7 +20,7 @@ whole c = not-false _ c.if1.false
 returns : tie.Need-returns
 returns c =
     let a = c.before.before.before.before.before.before.args in
-    not-whole a.w a.counts.now a.buf.now a.name.now _ c.before.before.walk.ensures.whole_is (not-true _ c.if1.true)
+    not_whole a.w a.counts.now a.buf.now a.name.now _ c.before.before.walk.ensures.whole_is (not-true _ c.if1.true)
 
 returns-2 : tie.Need-returns-2
 returns-2 c =
@@ -28,7 +28,7 @@ returns-2 c =
     let a = (walked e).before.before.before.before.args in
     let found = (walked e).walk.ensures in
     other_counts a.w a.counts.now a.buf.now a.name.now _ found.whole_is (whole e) _ (found.counts_are (whole e))
-    _ c.before.same-counts.ensures (not-true _ c.if2.true)
+    _ c.before.same_counts.ensures (not-true _ c.if2.true)
 
 returns-3 : tie.Need-returns-3
 returns-3 c =
@@ -37,7 +37,7 @@ returns-3 c =
     let a = (walked e).before.before.before.before.args in
     let found = (walked e).walk.ensures in
     other_back a.w a.counts.now a.buf.now a.name.now _ found.whole_is (whole e) _ (found.counts_are (whole e))
-    _ s.before.same-counts.ensures (not-false _ s.if2.false) _ _ (found.back_is (whole e)) c.before.back_in.ensures c.if3.true
+    _ s.before.same_counts.ensures (not-false _ s.if2.false) _ _ (found.back_is (whole e)) c.before.back_in.ensures c.if3.true
 
 -- the entries agree with the record: the answer is whether one has the name
 by_match : (c : tie.Else3) (m : Bool)
@@ -49,7 +49,7 @@ by_match c m is =
     let a = (walked e).before.before.before.before.args in
     let found = (walked e).walk.ensures in
     by_name a.w a.counts.now a.buf.now a.name.now _ found.whole_is (whole e) _ (found.counts_are (whole e))
-    _ s.before.same-counts.ensures (not-false _ s.if2.false) _ _ (found.back_is (whole e)) c.before.back_in.ensures c.if3.false
+    _ s.before.same_counts.ensures (not-false _ s.if2.false) _ _ (found.back_is (whole e)) c.before.back_in.ensures c.if3.false
     m (is ∙ found.contains_is (whole e))
 
 pub walk_refusal_spec : {M : Type 1} → statement M

@@ -2,7 +2,7 @@
 use Prim.Native.Nat.{◌+◌, ◌*◌, ◌≤◌}
 use Rattle.image.specs.Image.{back_in}
 use Rattle.writer.specs.Put.{back_after}
-use Rattle.writer.proofs.Fits.{back_after-fits}
+use Rattle.writer.proofs.Fits.{back_after_fits}
 use native.Mathlib.Omega.{arith}
 use Rattle.writer.specs.Put.{writer_after_put}
 use borrow.Author.Rules.{rules}
@@ -26,7 +26,7 @@ unfolding writer_after_put
 cast-t11 c =
     let a = c.before.before.before.args in
     let k : 4 * back_in a.w.mode (back_after a.w.mode a.w.back a.id) ≤ 4294967295 = omega arith in
-    let f = back_after-fits a.w.mode a.w.back a.id (omega arith) k in
+    let f = back_after_fits a.w.mode a.w.back a.id (omega arith) k in
     omega (arith, c.back-after.ensures)
 
 returns : tie.Need-returns
