@@ -1,4 +1,6 @@
 // A whole round in one call: names in and ids out, or ids in and names out.
+#![tactic(auto)]
+
 ghost use Rattle.std.specs.Prelude.{◌≡◌, ◌/◌, length};
 ghost use Rattle.batch.specs.RoundNames.{names};
 ghost use Rattle.batch.specs.Round.{round_outcome, after_round, rounded_of};
@@ -20,7 +22,7 @@ pub use naming::name_round;
 pub(crate) const MOST_NAMES: usize = 512;
 
 // What a round answers: how many buckets were read, with equal names counted once, or the number of the refusal.
-#[derive(Drop)]
+#[derive(Clone, Copy)]
 pub enum Rounded {
     Buckets(u64),
     Refused(u32),

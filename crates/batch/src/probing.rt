@@ -8,7 +8,7 @@ use jhash::word::word;
 use reader::lookup::{bucket_after, find_table};
 
 // The next bucket of a search: the offset in it, and `on`, 1 if the search stays open after it, else 0.
-#[derive(Drop)]
+#[derive(Clone, Copy)]
 struct BucketProbe {
     offset: u32,
     on: usize,

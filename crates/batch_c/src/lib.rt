@@ -1,6 +1,8 @@
 // A whole round for C, in both directions. The answers lie in words, four to an answer, as the structs of
 // include/cqdb.h do. A crate of its own, as lookup_c is: the compiler inlines a large function that has one caller, and
 // a round takes 4 % less time so (docs/DECISIONS.md, "Why several export crates?").
+#![tactic(auto)]
+
 ghost use Rattle.std.specs.Prelude.{◌≡◌, ◌/◌, length};
 ghost use Rattle.batch.specs.Round.{round_outcome, after_round};
 ghost use Rattle.batch.specs.NameRound.{name_refusal, after_names};
@@ -10,7 +12,7 @@ use batch::Rounded;
 
 // The refusal's number, 0 when accepted; the buckets read over the different names, 0 when refused.
 #[repr(C)]
-#[derive(Drop)]
+#[derive(Clone, Copy)]
 pub struct RoundAnswer {
     pub refusal: u32,
     pub buckets: u64,

@@ -1,4 +1,6 @@
 // A whole list in one call: begin, the puts in order and one close.
+#![tactic(auto)]
+
 ghost use Rattle.std.specs.Prelude.{◌≡◌, ◌<◌, length};
 ghost use Rattle.writer.specs.State.{state_with, refuses_repeats};
 ghost use Rattle.build.specs.Build.{build_refusal, building, BufferBuilt, answers_after, built_of};
@@ -22,14 +24,14 @@ mod singly; // singly.rt: the puts one by one
 mod stored; // stored.rt: the image of all names
 
 // The size of the image, and the number of accepted puts.
-#[derive(Drop)]
+#[derive(Clone, Copy)]
 pub struct Made {
     pub size: u32,
     pub accepted: u32,
 }
 
 // What the call answers: what was made, or the number of the refusal.
-#[derive(Drop)]
+#[derive(Clone, Copy)]
 pub enum Built {
     Image(Made),
     Refused(u32),

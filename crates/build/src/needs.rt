@@ -10,7 +10,7 @@ use image::{HEAD_SIZE_64, Mode};
 const WORDS_EACH: u64 = 5;
 
 // How many bytes, and how many words of scratch memory.
-#[derive(Drop)]
+#[derive(Clone, Copy)]
 pub struct Needs {
     pub bytes: u64,
     pub words: u64,

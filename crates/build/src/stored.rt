@@ -9,7 +9,7 @@ use serialize::size::{back_in, back_offset, finished_size};
 use serialize::tables::fill_all;
 
 // The size of the image, and whether two entries of equal name were met.
-#[derive(Drop)]
+#[derive(Clone, Copy)]
 pub(crate) struct WrittenList {
     pub size: u32,
     pub met: bool,

@@ -1,5 +1,7 @@
 // A whole list in one call, for C. A crate of its own for the time of a check: it takes 26 s, and a must-fail edit of
 // cqdb_c or lists_c would take that, too (docs/DECISIONS.md, "Why several export crates?").
+#![tactic(auto)]
+
 ghost use Rattle.std.specs.Prelude.{◌≡◌, ◌<◌, length};
 ghost use Rattle.build_c.specs.Building.{build_answer, BufferLeft, answers_built};
 ghost use Rattle.build_c.specs.Needs.{needs_answer};
@@ -10,7 +12,7 @@ use writer::numbers::{mode_of, repeats_of, valid_numbers};
 
 // The refusal's number, 0 when accepted; the image's size and the number of accepted puts, zeros when refused.
 #[repr(C)]
-#[derive(Drop)]
+#[derive(Clone, Copy)]
 pub struct BuildAnswer {
     pub refusal: u32,
     pub size: u32,
@@ -71,7 +73,7 @@ pub extern "C" fn cqdb_build_parts(
 
 // How many bytes and words a list needs.
 #[repr(C)]
-#[derive(Drop)]
+#[derive(Clone, Copy)]
 pub struct NeedsAnswer {
     pub bytes: u64,
     pub words: u64,

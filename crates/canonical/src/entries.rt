@@ -58,7 +58,7 @@ fn one_if_equal(w: u32, at: usize) -> u64
 
 // What the walk found: whether the entries are valid, their back size, and how many of them their id's back word points
 // to.
-#[derive(Drop)]
+#[derive(Clone, Copy)]
 pub struct EntriesChecked {
     pub valid: bool,
     pub back: u64,

@@ -1,5 +1,7 @@
 // Whether an image is canonical (02 (ix)): exactly what some puts produce, with no byte after it. The call needs no
 // memory but the image: every part of it is checked in place.
+#![tactic(auto)]
+
 ghost use Rattle.std.specs.Prelude.{◌≡◌, cond};
 ghost use Rattle.jhash.specs.Outcome.{value};
 ghost use Rattle.image.specs.Image.{back_in};

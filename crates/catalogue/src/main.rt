@@ -1,5 +1,7 @@
 // Reads lines (decimal id, space, name), puts them two-way in 65,536 bytes, with repeats off, and prints entries and
 // size, then the walk as id and name.
+#![tactic(auto)]
+
 ghost use Rattle.std.specs.Prelude.{◌≤◌, length};
 ghost use Rattle.writer.specs.State.{state_with};
 ghost use Rattle.image.specs.Image.{head_size};
@@ -15,14 +17,14 @@ mod parsing; // parsing.rt: a line, an id and a name
 mod pieces; // pieces.rt: lines put one after the other, of an input that comes in pieces
 
 // What a line is: an id, and where its name begins; or something of another form.
-#[derive(Drop)]
+#[derive(Clone, Copy)]
 pub enum Line {
     Entry { id: u32, name: usize },
     Other,
 }
 
 // What is kept between the pieces of an input: the writer record, and how many bytes of the line at hand have come.
-#[derive(Drop)]
+#[derive(Clone, Copy)]
 pub struct Intake {
     pub writer: CQDBWriter,
     pub have: usize,
@@ -55,7 +57,7 @@ fn put_input(
 }
 
 // What is printed first: the number of entries, and the size of the image, which is the buffer's first bytes.
-#[derive(Drop)]
+#[derive(Clone, Copy)]
 struct Totals {
     entries: u32,
     size: u32,

@@ -1,4 +1,6 @@
 // Two images compared: which ids they name differently, and which id has an old name now. Any bytes may be lent.
+#![tactic(auto)]
+
 ghost use Rattle.std.specs.Prelude.{◌≡◌};
 ghost use Rattle.changes.specs.Changes.{upper, differs, next_change};
 ghost use Rattle.changes.specs.Moves.{other_id, moved};
@@ -10,7 +12,7 @@ use reader::id_walk::{iter, size_hint};
 use reader::{Named, ToId, to_str};
 
 // The next change: its id, and what the old and the new image name it; or none.
-#[derive(Drop)]
+#[derive(Clone, Copy)]
 pub enum Change {
     At {
         id: u32,
@@ -21,7 +23,7 @@ pub enum Change {
 }
 
 // Where an old name moved: to another id, or nowhere.
-#[derive(Drop)]
+#[derive(Clone, Copy)]
 pub enum MovedTo {
     Other(u32),
     Nothing,

@@ -1,6 +1,8 @@
 // Whether an image is consistent, on every slice of bytes: whether an id's name leads back to it (the home check), and
 // whether the panel, which reads names as C strings, reads whole names. No call has a `requires`. A crate of its own
 // for the time of a check alone: this one takes 10 s and the reader 21 s, and a must-fail edit proves its whole crate.
+#![tactic(auto)]
+
 ghost use Rattle.std.specs.Prelude.{◌≡◌};
 ghost use Rattle.consistency.specs.Home.{home};
 

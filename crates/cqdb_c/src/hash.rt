@@ -7,7 +7,7 @@ use jhash::refusals::NAME_TOO_LONG;
 
 // The refusal's number, 0 when accepted; the hash, 0 when refused.
 #[repr(C)]
-#[derive(Drop)]
+#[derive(Clone, Copy)]
 pub struct HashAnswer {
     pub refusal: u32,
     pub hash: u32,

@@ -1,6 +1,8 @@
 // The C interface: what programs in other languages link, declared in include/cqdb.h. Each function is a thin call of
 // the proved function that bears the work, and answers a number or a struct of plain numbers. cqdb_to_id stands in a
 // crate of its own, lookup_c; the archive holds both.
+#![tactic(auto)]
+
 pub mod version; // version.rt: cqdb_version_number
 pub mod hash; // hash.rt: cqdb_hash
 pub mod opening; // opening.rt: cqdb_open

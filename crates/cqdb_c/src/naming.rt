@@ -13,7 +13,7 @@ use reader::{Iter, Named};
 // below 2^32, since it is an entry's length word minus 1; the offset may lie above. So the answer has 16 bytes, which
 // C hands back in two registers.
 #[repr(C)]
-#[derive(Drop)]
+#[derive(Clone, Copy)]
 pub struct PlaceAnswer {
     pub found: u32,
     pub len: u32,

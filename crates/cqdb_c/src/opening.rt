@@ -6,7 +6,7 @@ use reader::Opened;
 
 // The refusal's number, 0 when accepted; the number of entries, 0 when refused.
 #[repr(C)]
-#[derive(Drop)]
+#[derive(Clone, Copy)]
 pub struct OpenAnswer {
     pub refusal: u32,
     pub num: u32,

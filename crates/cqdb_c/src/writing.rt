@@ -17,7 +17,7 @@ use writer::{Begun, Closed};
 
 // What close answers: the refusal's number, 0 when accepted; the image's size, 0 when refused.
 #[repr(C)]
-#[derive(Drop)]
+#[derive(Clone, Copy)]
 pub struct CloseAnswer {
     pub refusal: u32,
     pub size: u32,

@@ -51,7 +51,7 @@ pub fn raise(counts: &mut [u32; 256], h: u32)
 
 // What a walk over the entries found: whether they are whole, their back size, and whether one has the name that was
 // sought.
-#[derive(Drop)]
+#[derive(Clone, Copy)]
 pub struct Walked {
     pub whole: bool,
     pub back: u64,

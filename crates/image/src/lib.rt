@@ -1,5 +1,7 @@
 // What an image is made of: its words, read and stored little-endian anywhere in a slice, byte strings compared, the
 // entries in some bytes, probe sequences, packed names, and the writer's mode.
+#![tactic(auto)]
+
 ghost use Rattle.std.specs.Prelude.{◌≡◌, ◌<◌, length, slice_set};
 ghost use Rattle.std.proofs.lemmas.List.Edits.{sets};
 ghost use Rattle.image.specs.Bytes.{word, le32};
@@ -29,7 +31,7 @@ pub const HEAD_SIZE_64: u64 = HEAD_SIZE as u64;
 pub const BYTEORDER_CHECK: u32 = 0x62445371;
 
 // The writer's mode (`Flag` of cqdb-rs, NONE and ONEWAY): a one-way image has no back array.
-#[derive(Drop)]
+#[derive(Clone, Copy)]
 pub enum Mode {
     Twoway,
     Oneway,

@@ -1,5 +1,7 @@
 // The index of the names that a buffer holds, in lent words, and a put that probes it: with repeats off it compares the
 // name only with entries whose hash is equal, where `writer::put` walks all earlier ones.
+#![tactic(auto)]
+
 ghost use Rattle.std.specs.Prelude.{◌≡◌};
 ghost use Rattle.jhash.specs.NameHash.{hash_or_zero};
 ghost use Rattle.writer.specs.State.{state_with, refuses_repeats};
@@ -21,7 +23,7 @@ mod checks; // checks.rt: what a put checks beside the search
 mod slots; // slots.rt: slots probed and stored
 
 // The refusal of a put, 0 where it is accepted, and then the slot that it takes, or the number of slots for none.
-#[derive(Drop)]
+#[derive(Clone, Copy)]
 struct Decision {
     refusal: u32,
     slot: usize,

@@ -2,6 +2,8 @@
 // slots are lent, too. A record whose mode or choice of repeats is neither 0 nor 1 is no record of 01 and fits no
 // buffer. This crate is compiled by itself, so that hash, probe and store have one caller each and are inlined
 // (docs/DECISIONS.md, "Why several export crates?").
+#![tactic(auto)]
+
 ghost use Rattle.std.specs.Prelude.{◌≡◌, length};
 ghost use Rattle.writer.specs.Put.{entry_of};
 ghost use Rattle.writer.specs.CRecord.{lent_state};

@@ -1,4 +1,6 @@
 // The name hash: Bob Jenkins's hashlittle (lookup3) over a name and one zero byte.
+#![tactic(auto)]
+
 ghost use Rattle.std.specs.Prelude.{◌≡◌, ◌+◌, ◌*◌, ◌/◌, ◌%◌, ◌^◌, ◌<◌, ◌≤◌, [], ◌∷◌, ◌++◌, length, nat_le};
 ghost use Rattle.jhash.specs.Lookup3.{sub32, rotl32, plus, added, mix, final_word, final};
 ghost use Rattle.jhash.specs.Lookup3.{equal_words, initial_word, hash_rest};
@@ -11,7 +13,7 @@ pub mod refusals; // refusals.rt: the numbers of the refusals
 pub mod word; // word.rt: the little-endian words of a slice
 
 // lookup3's three words a, b, c.
-#[derive(Drop)]
+#[derive(Clone, Copy)]
 struct Words {
     a: u32,
     b: u32,
@@ -19,7 +21,7 @@ struct Words {
 }
 
 // The answer: the hash, or the refusal of a name that is too long.
-#[derive(Drop)]
+#[derive(Clone, Copy)]
 pub enum Hashed {
     Hash(u32),
     Refused,

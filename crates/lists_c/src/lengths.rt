@@ -7,7 +7,7 @@ use search_length::Averaged;
 
 // The refusal's number, 0 when accepted; the number of entries, quotient and remainder, 0 when refused.
 #[repr(C)]
-#[derive(Drop)]
+#[derive(Clone, Copy)]
 pub struct AverageAnswer {
     pub refusal: u32,
     pub entries: u32,

@@ -7,7 +7,7 @@ use load::Loaded;
 
 // The refusal's number, 0 when accepted; the number of accepted entries, 0 when refused.
 #[repr(C)]
-#[derive(Drop)]
+#[derive(Clone, Copy)]
 pub struct LoadAnswer {
     pub refusal: u32,
     pub accepted: u32,

@@ -8,7 +8,7 @@ use one_to_one::OneToOne;
 // The refusal's number, 0 when accepted; 1 for yes; otherwise the kind of the first failure and its entry's offset.
 // Fields that do not apply are 0.
 #[repr(C)]
-#[derive(Drop)]
+#[derive(Clone, Copy)]
 pub struct OneToOneAnswer {
     pub refusal: u32,
     pub ok: u32,

@@ -1,4 +1,6 @@
 // A load anyone can rebuild: the entries that a seed gives, put two-way in repeats mode and closed (02 (xiii)).
+#![tactic(auto)]
+
 ghost use Rattle.std.specs.Prelude.{◌≡◌};
 ghost use Rattle.writer.specs.State.{state_with};
 ghost use Rattle.load.specs.Load.{put_from, loading, loaded_of, after_load};
@@ -10,7 +12,7 @@ use writer::{CQDBWriter, Repeats};
 mod states;
 
 // What the call answers: the number of accepted entries, or the number of the refusal.
-#[derive(Drop)]
+#[derive(Clone, Copy)]
 pub enum Loaded {
     Accepted(u32),
     Refused(u32),

@@ -1,6 +1,8 @@
 // Looking up a name, for C. A crate of its own, so that the compiler inlines search and hash: beside the home check,
 // which searches too, and the writer, which hashes, it would not. By itself a lookup takes 3 to 18 % less time than in
 // one crate with both (docs/DECISIONS.md, "Why several export crates?").
+#![tactic(auto)]
+
 ghost use Rattle.std.specs.Prelude.{◌≡◌};
 ghost use Rattle.lookup_c.specs.IdAnswers.{id_answer};
 
@@ -9,7 +11,7 @@ use reader::ToId;
 // 1, the id and the offset of the entry when the name was found, each 0 when not; and the number of buckets that the
 // search reads. Four words are returned in two registers.
 #[repr(C)]
-#[derive(Drop)]
+#[derive(Clone, Copy)]
 pub struct IdAnswer {
     pub found: u32,
     pub id: u32,

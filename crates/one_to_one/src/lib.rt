@@ -1,4 +1,6 @@
 // Whether an image is one to one: each name has one id, and each id one name. The image alone is lent.
+#![tactic(auto)]
+
 ghost use Rattle.std.specs.Prelude.{◌≡◌, cond};
 ghost use Rattle.jhash.specs.Outcome.{value};
 ghost use Rattle.image.specs.declared.Mode.TheVariants.{Twoway, Oneway};
@@ -17,7 +19,7 @@ use reader::{Named, ToId};
 
 // Yes; or the offset of the first entry that fails, whose name finds another id or whose id gives another name; or the
 // number of the refusal.
-#[derive(Drop)]
+#[derive(Clone, Copy)]
 pub enum OneToOne {
     Yes,
     OtherId { offset: u32 },

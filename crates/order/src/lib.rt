@@ -1,19 +1,21 @@
 // References before walls: whether a round, a list of ids, has the reference of each lent pair before the first
 // occurrence of its wall prism.
+#![tactic(auto)]
+
 ghost use Rattle.std.specs.Prelude.{◌≡◌};
 ghost use Rattle.order.specs.Rule.{kept, ordered};
 ghost use Rattle.order.specs.Cases.{verdict_of};
 
 // The reference must be sighted before the wall prism.
 #[repr(C)]
-#[derive(Drop)]
+#[derive(Clone, Copy)]
 pub struct Pair {
     pub reference: u32,
     pub wall: u32,
 }
 
 // Yes, or the place, counted from 0, of the first pair that fails.
-#[derive(Drop)]
+#[derive(Clone, Copy)]
 pub enum Order {
     Yes,
     Fails { pair: usize },

@@ -1,4 +1,6 @@
 // A printed catalogue: a line of 45 bytes for every id below back size.
+#![tactic(auto)]
+
 ghost use Rattle.std.specs.Prelude.{◌≡◌, ◌+◌, ◌-◌, ◌<◌, min, length};
 ghost use Rattle.std.proofs.lemmas.List.Edits.{sets};
 ghost use Rattle.reader.specs.Naming.{name_given};
@@ -14,7 +16,7 @@ use reader::id_walk::size_hint;
 mod line; // line.rt: one line
 
 // What the calls answer: the length of what is printed, or the number of the refusal.
-#[derive(Drop)]
+#[derive(Clone, Copy)]
 pub enum Printed {
     Length(u64),
     Refused(u32),

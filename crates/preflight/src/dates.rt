@@ -11,7 +11,7 @@ use validity::calendar::{earlier, is_date, is_end};
 use validity::{Date, Window};
 
 // Yes; or a refusal, 22 or 23; or the place of the first id of the round that has no such window.
-#[derive(Drop)]
+#[derive(Clone, Copy)]
 pub enum DatesAnswer {
     Yes,
     Refused(u32),

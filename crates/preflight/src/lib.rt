@@ -1,5 +1,7 @@
 // May this report leave: whether two images name the ids of a round so that no movement is shown that never happened.
 // Any bytes may be lent.
+#![tactic(auto)]
+
 ghost use Rattle.std.specs.Prelude.{◌≡◌};
 ghost use Rattle.reader.specs.Naming.{name_given};
 ghost use Rattle.preflight.specs.Verdicts.{is_whole, is_yes, of_round, of_changes, verdict_first, verdict};
@@ -17,28 +19,28 @@ mod names; // names.rt: the questions about names
 mod on_sheet; // on_sheet.rt: the round beside the sheet: of_sheet
 
 // A place in the round, counted from 0; or none.
-#[derive(Drop)]
+#[derive(Clone, Copy)]
 pub enum Place {
     At(usize),
     Nothing,
 }
 
 // Two places in the round, of different ids with one name; or none.
-#[derive(Drop)]
+#[derive(Clone, Copy)]
 pub enum Shared {
     Places { place: usize, other: usize },
     Nothing,
 }
 
 // An id that lost its old name, and the place in the round of the id that has it now; or none.
-#[derive(Drop)]
+#[derive(Clone, Copy)]
 pub enum Taken {
     By { id: u32, place: usize },
     Nothing,
 }
 
 // Yes, or the first question that fails, with the ids and the places in the round that show it.
-#[derive(Drop)]
+#[derive(Clone, Copy)]
 pub enum Verdict {
     Yes,
     NewRefused,
@@ -56,7 +58,7 @@ pub enum Verdict {
 // The verdict, and how much a yes is about: how many places of the round have an id that the old image names, so that
 // it was compared, and how many have another; how many references and wall prisms of the sheet are not in the round.
 // All three are 0 in a no, the first two also in a first report.
-#[derive(Drop)]
+#[derive(Clone, Copy)]
 pub struct Answer {
     pub verdict: Verdict,
     pub compared: usize,

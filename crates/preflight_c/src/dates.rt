@@ -8,7 +8,7 @@ use validity::Date;
 
 // 0 for yes, 11 for no, and then the place that shows it; or the refusal's number. Fields that do not apply are 0.
 #[repr(C)]
-#[derive(Drop)]
+#[derive(Clone, Copy)]
 pub struct PreflightDatesAnswer {
     pub question: u32,
     pub refusal: u32,

@@ -8,7 +8,7 @@ use preflight::{Answer, Verdict};
 // The number of the first question that fails, 0 for yes, and what shows it; the counts of a yes. Fields that do not
 // apply are 0.
 #[repr(C)]
-#[derive(Drop)]
+#[derive(Clone, Copy)]
 pub struct PreflightAnswer {
     pub question: u32,
     pub refusal: u32,

@@ -2,6 +2,8 @@
 // what 01 fixes for the bytes that it is lent, whether open accepts them or not. The steps of a search (`find_table`,
 // `search_from`, `probe_bucket`, `probe_entry`, `bucket_after`) are internal functions, public for the crates whose
 // searches differ.
+#![tactic(auto)]
+
 pub mod opening; // opening.rt: open
 pub mod lookup; // lookup.rt: to_id
 pub mod naming; // naming.rt: to_str, name, name_or
@@ -13,7 +15,7 @@ pub use opening::open;
 
 // What opening answers: the number of entries (`num` of cqdb-rs), by the bucket numbers of the head; or the number of
 // the refusal that applies first.
-#[derive(Drop)]
+#[derive(Clone, Copy)]
 pub enum Opened {
     Num(u32),
     Refused(u32),
@@ -21,7 +23,7 @@ pub enum Opened {
 
 // What a lookup finds: the id, the number of buckets that the search reads, the deciding one included, and the offset
 // in that bucket, where the entry with this id and name is.
-#[derive(Drop)]
+#[derive(Clone, Copy)]
 pub struct Found {
     pub id: u32,
     pub buckets: u32,
@@ -29,28 +31,28 @@ pub struct Found {
 }
 
 // What a lookup answers: what it finds, or nothing, with the number of buckets that the search reads.
-#[derive(Drop)]
+#[derive(Clone, Copy)]
 pub enum ToId {
     Found(Found),
     Nothing { buckets: u32 },
 }
 
 // A table: its offset and its bucket number.
-#[derive(Drop)]
+#[derive(Clone, Copy)]
 pub struct Table {
     pub at: u32,
     pub n: u32,
 }
 
 // An entry with the wanted name: its id and its offset.
-#[derive(Drop)]
+#[derive(Clone, Copy)]
 pub struct Hit {
     pub id: u32,
     pub offset: u32,
 }
 
 // What a search does at a bucket: it passes it, ends with nothing, or ends with an entry that has the name.
-#[derive(Drop)]
+#[derive(Clone, Copy)]
 pub enum Probe {
     Pass,
     Ends,
@@ -58,20 +60,20 @@ pub enum Probe {
 }
 
 // What naming an id answers: the place of the name in the image, or nothing.
-#[derive(Drop)]
+#[derive(Clone, Copy)]
 pub enum Named {
     Place { start: usize, len: usize },
     Nothing,
 }
 
 // A walk over the ids; `next` is the id of its next step.
-#[derive(Drop)]
+#[derive(Clone, Copy)]
 pub struct Iter {
     pub next: u32,
 }
 
 // A step of a walk: the id, the place of its name, and the walk to continue with; or the end.
-#[derive(Drop)]
+#[derive(Clone, Copy)]
 pub enum Stepped {
     Item {
         id: u32,

@@ -14,7 +14,7 @@ use jhash::refusals::{BACK_LEAVES, TABLE_LEAVES, TOO_SHORT, WRONG_BYTE_ORDER, WR
 use jhash::word::word;
 
 // Sums over the tables so far: the halves of their bucket numbers, modulo 2^32, and the bitwise or of their slacks.
-#[derive(Drop)]
+#[derive(Clone, Copy)]
 struct TableSums {
     num: u32,
     slacks: u64,

@@ -10,7 +10,7 @@ use bundle::{Appended, Counted, OpenedAt};
 // The refusal's number, 0 when accepted; the number of entries, and the place of the image's first byte in the
 // file and how many bytes it has. Zeros when refused.
 #[repr(C)]
-#[derive(Drop)]
+#[derive(Clone, Copy)]
 pub struct BundleOpenAnswer {
     pub refusal: u32,
     pub num: u32,
@@ -20,7 +20,7 @@ pub struct BundleOpenAnswer {
 
 // The refusal's number, 0 when accepted; the joined length, 0 when refused.
 #[repr(C)]
-#[derive(Drop)]
+#[derive(Clone, Copy)]
 pub struct BundleAppendAnswer {
     pub refusal: u32,
     pub length: u64,
@@ -28,7 +28,7 @@ pub struct BundleAppendAnswer {
 
 // The refusal's number, 0 when accepted; the number of images, 0 when refused.
 #[repr(C)]
-#[derive(Drop)]
+#[derive(Clone, Copy)]
 pub struct BundleCountAnswer {
     pub refusal: u32,
     pub images: u64,

@@ -11,7 +11,7 @@ use reader::Named;
 
 // 1 and the place of the name in its image, its length and its first byte's offset; or three zeros.
 #[repr(C)]
-#[derive(Drop)]
+#[derive(Clone, Copy)]
 pub struct NameAnswer {
     pub found: u32,
     pub len: u32,
@@ -20,7 +20,7 @@ pub struct NameAnswer {
 
 // 1, the id, and the places of its names in the old and the new image; or zeros.
 #[repr(C)]
-#[derive(Drop)]
+#[derive(Clone, Copy)]
 pub struct ChangeAnswer {
     pub found: u32,
     pub id: u32,
@@ -30,7 +30,7 @@ pub struct ChangeAnswer {
 
 // 1 and the id to which the old name moved, or two zeros.
 #[repr(C)]
-#[derive(Drop)]
+#[derive(Clone, Copy)]
 pub struct MovedAnswer {
     pub found: u32,
     pub id: u32,

@@ -9,7 +9,7 @@ use reader::lookup::find_table;
 
 // 1, the entry's id and the place of its name, its length and its first byte's offset; or zeros.
 #[repr(C)]
-#[derive(Drop)]
+#[derive(Clone, Copy)]
 pub struct EntryAnswer {
     pub found: u32,
     pub id: u32,
@@ -19,7 +19,7 @@ pub struct EntryAnswer {
 
 // The number of a table's buckets, and the first one's offset; or zeros.
 #[repr(C)]
-#[derive(Drop)]
+#[derive(Clone, Copy)]
 pub struct TableAnswer {
     pub buckets: u32,
     pub start: u32,

@@ -1,5 +1,7 @@
 // Exports for C of the calls that stand on the reader alone, a module for each subject. Each is a thin call of the
 // proved function that bears the work, and answers numbers or a struct of plain numbers.
+#![tactic(auto)]
+
 pub mod ordering; // ordering.rt: cqdb_references_first
 pub mod sheets; // sheets.rt: cqdb_sheet_read, cqdb_sheet_write
 pub mod pages; // pages.rt: cqdb_page_length, cqdb_page, cqdb_page_part

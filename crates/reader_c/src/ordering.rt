@@ -8,7 +8,7 @@ use order::{Order, Pair};
 
 // 1 and 0 where every pair is kept; otherwise 0 and the place of the first that is not.
 #[repr(C)]
-#[derive(Drop)]
+#[derive(Clone, Copy)]
 pub struct OrderAnswer {
     pub ok: u32,
     pub pair: u64,

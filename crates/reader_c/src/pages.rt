@@ -7,7 +7,7 @@ use page::Printed;
 
 // The refusal's number, 0 when accepted; the length of what is printed, 0 when refused.
 #[repr(C)]
-#[derive(Drop)]
+#[derive(Clone, Copy)]
 pub struct PageAnswer {
     pub refusal: u32,
     pub length: u64,

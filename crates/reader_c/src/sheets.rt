@@ -10,7 +10,7 @@ use sheet::{ReadAnswer, Sheet, Written};
 // The refusal's number, 0 when the file was accepted; then, for references, wall prisms and retired prisms, the
 // number of ids and the offset of the first one's bytes, all 0 when refused.
 #[repr(C)]
-#[derive(Drop)]
+#[derive(Clone, Copy)]
 pub struct SheetAnswer {
     pub refusal: u32,
     pub counts: [u32; 3],
@@ -19,7 +19,7 @@ pub struct SheetAnswer {
 
 // The refusal's number, 0 when accepted; the file's length, 0 when refused.
 #[repr(C)]
-#[derive(Drop)]
+#[derive(Clone, Copy)]
 pub struct LengthAnswer {
     pub refusal: u32,
     pub length: u64,

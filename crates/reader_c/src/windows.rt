@@ -9,7 +9,7 @@ use validity::{Date, NamedOn, Window, WindowState};
 // The refusal's number, 0 when accepted; 1 and the place of the name in the image, its length and its first byte's
 // offset; or zeros. The length is below 2^32, since it is an entry's length word minus 1.
 #[repr(C)]
-#[derive(Drop)]
+#[derive(Clone, Copy)]
 pub struct OnAnswer {
     pub refusal: u32,
     pub found: u32,

@@ -35,6 +35,8 @@
 //     part 4351                    its next bytes are these
 //     nils 00000010                its next bytes, so many, are zeros
 //     last                         it ends here
+#![tactic(auto)]
+
 use image::Mode;
 use jhash::Hashed;
 use libc::STDIN_FILENO;
@@ -52,7 +54,7 @@ use verdict::{Counts, Verdict, equal_if};
 
 // What the lines so far left: the length of the image that is read and the id before which the walk stands; the
 // writer record, the size of the image that close made last, and how many of its bytes have been compared.
-#[derive(Drop)]
+#[derive(Clone, Copy)]
 struct State {
     len: usize,
     next: u32,
@@ -62,7 +64,7 @@ struct State {
 }
 
 // What a line left, and its verdict.
-#[derive(Drop)]
+#[derive(Clone, Copy)]
 struct Step {
     state: State,
     verdict: Verdict,

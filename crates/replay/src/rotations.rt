@@ -8,7 +8,7 @@ const WORDS: u32 = 131072;
 
 // What became of the words at one amount: how many answers were not lookup3's own `rot` (two shifts and an or), and the
 // sum of all.
-#[derive(Drop)]
+#[derive(Clone, Copy)]
 struct Tally {
     different: u64,
     sum: u64,

@@ -3,7 +3,7 @@ use libc::STDOUT_FILENO;
 
 // What became of a line: its stored answer is the one that was given, or another; it could not be read; or it asks for
 // no answer.
-#[derive(Drop)]
+#[derive(Clone, Copy)]
 pub enum Verdict {
     Equal,
     Different,
@@ -12,7 +12,7 @@ pub enum Verdict {
 }
 
 // How many lines had a stored answer that was given, that was not, and how many could not be read.
-#[derive(Drop)]
+#[derive(Clone, Copy)]
 pub struct Counts {
     pub equal: u64,
     pub different: u64,

@@ -1,5 +1,7 @@
 // The average search length (02 (x)): how many buckets are read when the name of each entry of an image is looked up,
 // divided by the number of entries. Also how many entries have each length.
+#![tactic(auto)]
+
 ghost use Rattle.std.specs.Prelude.{◌≡◌};
 ghost use Rattle.search_length.specs.Average.{first_refusal, averaging, averaged_of, Lengths};
 
@@ -10,7 +12,7 @@ use walks::count_lengths;
 mod walks; // walks.rt: the search lengths of the entries
 
 // The number of entries, and the total of the search lengths divided by it: quotient and remainder.
-#[derive(Drop)]
+#[derive(Clone, Copy)]
 pub struct AverageLength {
     pub entries: u32,
     pub quotient: u64,
@@ -18,7 +20,7 @@ pub struct AverageLength {
 }
 
 // The answer: the average, or the number of the refusal.
-#[derive(Drop)]
+#[derive(Clone, Copy)]
 pub enum Averaged {
     Average(AverageLength),
     Refused(u32),

@@ -50,7 +50,7 @@ fn same_names(front: &[u8], a: u32, b: u32) -> bool
 }
 
 // What the search for a bucket found: the first empty one, and whether it met an entry of equal name before.
-#[derive(Drop)]
+#[derive(Clone, Copy)]
 pub struct Found {
     pub bucket: usize,
     pub met: bool,

@@ -1,5 +1,7 @@
 // Serializing: entries that stand in a buffer become an image, when head, tables and back array are written around
 // them.
+#![tactic(auto)]
+
 ghost use Rattle.serialize.specs.Steps.Preconditions.{ClosePrecondition};
 ghost use Rattle.serialize.specs.Steps.Meeting.{ImageWritten};
 ghost use Rattle.serialize.specs.Steps.Written.{BeginPre, FrontWritten, ImageBegun};

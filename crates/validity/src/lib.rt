@@ -1,4 +1,6 @@
 // Names with a season: an id's name on a date, by a lent list of windows.
+#![tactic(auto)]
+
 ghost use Rattle.std.specs.Prelude.{◌≡◌};
 ghost use Rattle.reader.specs.Slices.{slice};
 ghost use Rattle.validity.specs.Rule.{naming_on, name_part_on};
@@ -15,7 +17,7 @@ pub mod windows; // windows.rt: window_state, what the windows say of an id on a
 
 // Year, month and day, whether such a day exists or not.
 #[repr(C)]
-#[derive(Drop)]
+#[derive(Clone, Copy)]
 pub struct Date {
     pub year: u16,
     pub month: u8,
@@ -24,7 +26,7 @@ pub struct Date {
 
 // The id's prism stands from the first date on, and on the end date no longer.
 #[repr(C)]
-#[derive(Drop)]
+#[derive(Clone, Copy)]
 pub struct Window {
     pub id: u32,
     pub first: Date,
@@ -33,7 +35,7 @@ pub struct Window {
 
 // What windows say of an id on a date, each case stronger than those before it: no window of the id holds the date;
 // one does; a window does not start before its end; a window has a date that does not exist or is out of bounds.
-#[derive(Drop)]
+#[derive(Clone, Copy)]
 pub enum WindowState {
     Inactive,
     Active,
@@ -42,7 +44,7 @@ pub enum WindowState {
 }
 
 // What naming an id on a date answers: the place of the name in the image, or nothing, or the number of the refusal.
-#[derive(Drop)]
+#[derive(Clone, Copy)]
 pub enum NamedOn {
     Place { start: usize, len: usize },
     Nothing,

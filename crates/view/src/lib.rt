@@ -1,5 +1,7 @@
 // A view of an image (reference `CQDB`): a struct around the slice, and thin calls of the functions on plain slices,
 // each with that function's promise. A view can be copied, and its calls take it by value.
+#![tactic(auto)]
+
 ghost use Rattle.std.specs.Prelude.{◌≡◌};
 ghost use Rattle.reader.specs.Open.{opening};
 ghost use Rattle.reader.specs.Lookup.{lookup};
@@ -12,7 +14,7 @@ ghost use Rattle.view.specs.Num.{num_of};
 
 use reader::{Iter, Named, Opened, Stepped, ToId};
 
-#[derive(Drop)]
+#[derive(Clone, Copy)]
 pub struct CQDB<'a> {
     pub image: &'a [u8],
 }

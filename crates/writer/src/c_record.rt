@@ -8,7 +8,7 @@ use super::numbers::{mode_of, repeats_of, repeats_word};
 // The mode (0 two-way, 1 one-way), the choice of repeats (0 off, 1 on), the number of entries, the back size, the
 // buffer's length and the end of the entries.
 #[repr(C)]
-#[derive(Drop)]
+#[derive(Clone, Copy)]
 pub struct Record {
     pub mode: u32,
     pub repeats: u32,

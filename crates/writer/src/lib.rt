@@ -1,4 +1,6 @@
 // Writing: begin, put and close over one lent buffer, for every writer record and every buffer.
+#![tactic(auto)]
+
 ghost use Rattle.std.specs.Prelude.{◌≡◌, length};
 ghost use Rattle.writer.specs.State.{state_with, beginning, begun_of, counts_begun};
 ghost use Rattle.writer.specs.Put.{put_refusal, appended, after_put, entry_of};
@@ -16,7 +18,7 @@ pub mod numbers; // numbers.rt: the numbers by which C names a mode and the choi
 pub mod record; // record.rt: the numbers of the record after a put
 
 // 02 (viii)'s choice of repeats: with repeats off a writer refuses a name that it already holds.
-#[derive(Drop)]
+#[derive(Clone, Copy)]
 pub enum Repeats {
     Off,
     On,
@@ -24,7 +26,7 @@ pub enum Repeats {
 
 // The writer record (`CQDBWriter` of cqdb-rs), but for its 256 table counts, which are lent apart: the mode, the
 // choice of repeats, the buffer's length, the end of the entries, the number of entries and the back size.
-#[derive(Drop)]
+#[derive(Clone, Copy)]
 pub struct CQDBWriter {
     pub mode: Mode,
     pub repeats: Repeats,
@@ -35,7 +37,7 @@ pub struct CQDBWriter {
 }
 
 // What begin answers: the fresh record, or the refusal's number.
-#[derive(Drop)]
+#[derive(Clone, Copy)]
 pub enum Begun {
     Fresh(CQDBWriter),
     Refused(u32),
@@ -43,21 +45,21 @@ pub enum Begun {
 
 // What put and grown answer: the number of the refusal, or 0 where the call is accepted; and the record that it hands
 // back.
-#[derive(Drop)]
+#[derive(Clone, Copy)]
 pub struct RecordAnswer {
     pub refusal: u32,
     pub writer: CQDBWriter,
 }
 
 // What close answers: the image's size, or the refusal's number.
-#[derive(Drop)]
+#[derive(Clone, Copy)]
 pub enum Closed {
     Size(u32),
     Refused(u32),
 }
 
 // What close answers, and the record that it hands back.
-#[derive(Drop)]
+#[derive(Clone, Copy)]
 pub struct CloseAnswer {
     pub answer: Closed,
     pub writer: CQDBWriter,
