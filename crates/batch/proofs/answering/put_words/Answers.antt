@@ -1,0 +1,14 @@
+-- `batch::answering::put_words` meets its contract. Assumes nothing.
+use native.Mathlib.Omega.{arith}
+use lib.ListN.{length-set}
+use borrow.Author.Rules.{rules}
+use Rattle.batch.proofs.answering.put_words.Goals as goal
+
+pub bounds-answers-at-2 : goal.bounds-answers-at-2
+bounds-answers-at-2 c = simp length-set (omega arith)
+
+pub bounds-answers-at-3 : goal.bounds-answers-at-3
+bounds-answers-at-3 c = simp length-set (omega arith)
+
+pub bounds-answers-at-4 : goal.bounds-answers-at-4
+bounds-answers-at-4 c = simp length-set (omega arith)

@@ -1,0 +1,25 @@
+-- `batch::probing::pass` meets its contract. The loop's invariant: the searches passed are partitioned, and the others stand where they stood. Assumes
+-- nothing.
+use Prim.Native.Nat.{ℕ, ◌+◌, ◌-◌, ◌≤◌, ◌<◌}
+use native.Mathlib.Omega.{arith}
+use mathlib.Core.Path.{◌≡◌, refl, sym, subst}
+use mathlib.Core.List.{List}
+use lib.ListN.{length, get_or, length-set}
+use borrow.Author.Rules.{rules}
+use Rattle.batch.specs.Steps.Probing.{SearchOpen, OpenOrDecided}
+use Rattle.batch.proofs.Passes.{unread_step, open_or_decided_step, open_or_decided_end}
+use Rattle.batch.proofs.probing.pass.Given as goal
+
+pub record Inv (image hashes live₀ done₀ offsets₀ live done offsets : List ℕ) (c q p d z : ℕ) : Type 0 where
+  pub inside : z ≤ q
+  pub live_long : length live ≡ length live₀
+  pub done_long : length done ≡ length done₀
+  pub offsets_long : length offsets ≡ length offsets₀
+  pub unread : (y : ℕ) → z ≤ y → get_or live y 0 ≡ get_or live₀ y 0
+  pub open_or_decided : OpenOrDecided image hashes live₀ live done offsets (c + 1) p d z
+
+abbrev pub invariant-loop-z : goal.invariant-loop-z
+invariant-loop-z l = Inv l.image l.hashes l.initial.live l.initial.done l.initial.offsets l.live l.done l.offsets l.c l.q l.p l.d l.z
+
+abbrev pub decreases-loop-z : goal.decreases-loop-z
+decreases-loop-z l = l.q - l.z

@@ -1,0 +1,12 @@
+-- `build::singly::put_name` meets its contract, by either way. Assumes nothing.
+use borrow.Author.Rules.{rules}
+use Rattle.build.proofs.SinglePuts.{by_rule, by_index}
+use Rattle.build.proofs.singly.put_name.Goals as goal
+
+pub returns-then-slots-eq0 : goal.returns-then-slots-eq0
+returns-then-slots-eq0 c =
+    by_rule c.if-slots-eq0.true c.put.ensures.0 c.put.ensures.1
+
+pub returns : goal.returns
+returns c =
+    by_index c.requires c.if-slots-eq0.false c.put_indexed.ensures

@@ -1,0 +1,79 @@
+-- `consistency::matching::has_match_in` meets its contract. The loop's invariant: what is left of the search matches the id exactly when the whole search does.
+-- Assumes nothing.
+use Prim.Native.Nat.{ℕ, ◌-◌}
+use native.Mathlib.Omega.{arith}
+use mathlib.Core.Path.{◌≡◌, sym, ap, ◌∙◌}
+use mathlib.Core.Bool.{Bool}
+use mathlib.Core.Logic.{⊎_elim}
+use Rattle.image.specs.Tables.{next}
+use Rattle.reader.specs.Lookup.{Probe, pass, ends, hit}
+use Rattle.consistency.specs.Matches.{Matches, add_match, matches_in, any_match}
+use Rattle.reader.specs.Cases.{probe_of}
+use Rattle.consistency.proofs.MatchSearch.{matches_rest, MatchInv, matches_start, matches_over, matches_step, this_one, another}
+use borrow.Author.Rules.{rules}
+use Rattle.consistency.proofs.matching.has_match_in.Goals.{After-probe_bucket}
+use Rattle.consistency.proofs.matching.has_match_in.Goals as goal
+
+left_of : (c : After-probe_bucket) → ℕ → Matches
+left_of c j =
+    let a = c.args in
+    matches_rest a.image.now a.name.now a.h a.at a.n j (c.loop-left.left - 1)
+
+step : (c : After-probe_bucket) (s : Probe) → probe_of c.probe_bucket.result ≡ s → any_match c.args.id (add_match s (c.args.n - (c.loop-left.left - 1)) ((left_of c) (next c.args.n c.loop-left.k))) ≡ (let a = c.args in any_match a.id (matches_in a.image.now a.name.now a.h a.at a.n))
+step c s e =
+    let a = c.args in
+    ap (any_match a.id)
+    (matches_step a.image.now a.name.now a.h a.at a.n c.loop-left.k c.loop-left.left s (omega arith) c.loop-left.invariant.most
+    (sym e ∙ c.probe_bucket.ensures))
+    ∙ c.loop-left.invariant.same
+
+pub loop-left-init : goal.loop-left-init
+loop-left-init c =
+    let a = c.args in
+    let image = a.image.now in
+    let name = a.name.now in
+    record {
+      bucket = c.start-k.ensures.inside;
+      most = search rules;
+      same = ap (λ (j : ℕ). any_match a.id (matches_rest image name a.h a.at a.n j a.n)) c.start-k.ensures.is
+          ∙ ap (any_match a.id) (matches_start image name a.h a.at a.n);
+    }
+
+pub overflow_add-at : goal.overflow_add-at
+overflow_add-at c = omega (arith, c.requires.inside)
+
+pub probe_bucket-requires : goal.probe_bucket-requires
+probe_bucket-requires c = omega (arith, c.requires.inside)
+
+pub returns-in-Ends : goal.returns-in-Ends
+returns-in-Ends c = step (goal.at.returns-in-Ends c).After-probe_bucket ends (ap probe_of c.in-Ends.is)
+
+-- an entry with this id
+pub returns-then-hit-id : goal.returns-then-hit-id
+returns-then-hit-id c =
+    this_one c.in-Hit.hit.id c.args.id (any_match c.args.id (left_of (goal.at.returns-then-hit-id c).After-probe_bucket (next c.args.n c.loop-left.k))) c.if-hit-id.true
+    ∙ step (goal.at.returns-then-hit-id c).After-probe_bucket (hit (record { id = c.in-Hit.hit.id; offset = c.in-Hit.hit.offset })) (ap probe_of c.in-Hit.is)
+
+pub loop-left-smaller : goal.loop-left-smaller
+loop-left-smaller c = omega arith
+
+-- the bucket was passed, or its entry has another id
+pub loop-left-preserved : goal.loop-left-preserved
+loop-left-preserved c =
+    record {
+      bucket = c.next-k.ensures.inside;
+      most = omega arith;
+      same = ap (λ (j : ℕ). any_match c.args.id (left_of (goal.at.loop-left-preserved c).After-probe_bucket j)) c.next-k.ensures.is
+          ∙ ⊎_elim (λ w. step (goal.at.loop-left-preserved c).After-probe_bucket pass (ap probe_of w.1.given.1))
+          (λ w.
+          let told = w.1.given.0.0 in
+          another told.id c.args.id (any_match c.args.id (left_of (goal.at.loop-left-preserved c).After-probe_bucket (next c.args.n c.loop-left.k))) w.4.left
+          ∙ step (goal.at.loop-left-preserved c).After-probe_bucket (hit (record { id = told.id; offset = told.offset })) (ap probe_of w.1.given.1))
+          c.match-probe_bucket.branch;
+    }
+
+pub returns : goal.returns
+returns c =
+    let a = c.args in
+    matches_over a.image.now a.name.now a.h a.at a.n a.id c.loop-left.k c.loop-left.left (omega arith)
+    ∙ c.loop-left.invariant.same

@@ -1,0 +1,36 @@
+-- `index::checks::early_refusal` meets its contract. Assumes nothing.
+use native.Mathlib.Omega.{arith}
+use mathlib.Core.Path.{◌≡◌, refl, sym, ◌∙◌}
+use mathlib.Core.Bool.{true, false}
+use borrow.Author.Rules.{rules}
+use borrow.Author.Tests.{lt-ltb, le-ltb, not-true, not-false}
+use lib.ListN.{length}
+use Rattle.image.specs.Zero.{has_zero}
+use Rattle.writer.specs.State.{in_buffer}
+use Rattle.index.specs.Refusals.{early_refusal}
+use Rattle.index.proofs.checks.early_refusal.Goals.{Else-has_zero, Else-not-in_buffer}
+use Rattle.index.proofs.checks.early_refusal.Goals as goal
+
+inside : (c : Else-not-in_buffer) → let a = c.args in in_buffer a.w a.buf.now ≡ true
+inside c = sym c.in_buffer.ensures ∙ c.if-not-in_buffer.false
+
+free : (c : Else-has_zero) → has_zero c.args.name.now ≡ false
+free c = sym c.has_zero.ensures ∙ c.if-has_zero.false
+
+pub returns-then-not-in_buffer : goal.returns-then-not-in_buffer
+unfolding early_refusal
+returns-then-not-in_buffer c = rw (sym c.in_buffer.ensures ∙ c.if-not-in_buffer.true) refl
+
+pub returns-then-has_zero : goal.returns-then-has_zero
+unfolding early_refusal
+returns-then-has_zero c = rw (inside (goal.at.returns-then-has_zero c).Else-not-in_buffer, sym c.has_zero.ensures ∙ c.if-has_zero.true) refl
+
+pub returns-then-name-gt4294967294 : goal.returns-then-name-gt4294967294
+unfolding early_refusal
+returns-then-name-gt4294967294 c =
+    rw (inside (goal.at.returns-then-name-gt4294967294 c).Else-not-in_buffer, free (goal.at.returns-then-name-gt4294967294 c).Else-has_zero, lt-ltb 4294967294 (length c.args.name.now) c.if-name-gt4294967294.true) refl
+
+pub returns : goal.returns
+unfolding early_refusal
+returns c =
+    rw (inside (goal.at.returns c).Else-not-in_buffer, free (goal.at.returns c).Else-has_zero, le-ltb 4294967294 (length c.args.name.now) (omega (arith, c.if-name-gt4294967294.false))) refl

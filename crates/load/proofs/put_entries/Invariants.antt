@@ -1,0 +1,26 @@
+-- `load::put_entries` meets its contract: what is left to be put makes of what was put what the whole load leaves. Assumes nothing.
+use Prim.Native.Nat.{ℕ, ◌-◌, ◌≤◌}
+use native.Mathlib.Omega.{arith}
+use native.Mathlib.Numerals.{add-one}
+use mathlib.Core.Path.{◌≡◌, refl, sym, ap, ◌∙◌}
+use lib.ListN.{length}
+use borrow.Author.Rules.{rules}
+use Rattle.writer.specs.State.{State, state_with}
+use Rattle.writer.specs.Put.{entry_of}
+use Rattle.load.specs.States.{next_state, state_after, load_entry}
+use Rattle.load.specs.Load.{put_from}
+use Rattle.load.proofs.PutTurns.{entry_is, turn_goes_on, turn_ends, all_put}
+use Rattle.load.proofs.put_entries.Given as goal
+
+pub record Inv (seed : ℕ) (s₀ s : State) (state i : ℕ) : Type 0 where
+  pub inside : i ≤ 4096
+  pub state_is : state ≡ state_after seed i
+  pub whole : put_from seed (4096 - i) i s ≡ put_from seed 4096 0 s₀
+  pub buf_length : length s.buffer ≡ length s₀.buffer
+
+abbrev pub invariant-loop-i : goal.invariant-loop-i
+invariant-loop-i l =
+    Inv l.seed (state_with l.initial.after l.initial.counts l.initial.buf) (state_with l.after l.counts l.buf) l.state l.i
+
+abbrev pub decreases-loop-i : goal.decreases-loop-i
+decreases-loop-i l = 4096 - l.i

@@ -1,0 +1,41 @@
+-- `page::line::repeat` meets its contract. Assumes nothing.
+use native.Mathlib.Omega.{arith}
+use native.Mathlib.Nat.{add-zero}
+use Prim.Native.Nat.{ℕ, ◌+◌, ◌-◌, ◌≤◌}
+use mathlib.Core.Path.{◌≡◌, refl, sym, ◌∙◌}
+use mathlib.Core.List.{List}
+use lib.ListN.{length, replicate, length-set}
+use lib.Seq.{sets}
+use borrow.Author.Rules.{rules}
+use Rattle.page.proofs.PageStores.{repeat_turn, repeat_end}
+use Rattle.page.proofs.line.repeat.Invariants.{Inv}
+use Rattle.page.proofs.line.repeat.Goals as goal
+
+pub loop-j-init : goal.loop-j-init
+loop-j-init c = record { inside = omega arith; out_length = refl; whole = simp add-zero }
+
+pub overflow_add-out : goal.overflow_add-out
+overflow_add-out c = omega arith
+
+pub bounds-out-at : goal.bounds-out-at
+bounds-out-at c = omega arith
+
+pub overflow_add-j : goal.overflow_add-j
+overflow_add-j c = omega arith
+
+pub loop-j-smaller : goal.loop-j-smaller
+loop-j-smaller c = omega arith
+
+pub loop-j-preserved : goal.loop-j-preserved
+loop-j-preserved c =
+    let a = c.args in
+    record {
+      inside = omega arith;
+      out_length = simp length-set c.loop-j.invariant.out_length;
+      whole = repeat_turn c.loop-j.out a.at c.loop-j.j 32 a.b c.loop-j-test.true ∙ c.loop-j.invariant.whole;
+    }
+
+pub returns : goal.returns
+returns c =
+    let a = c.args in
+    sym (repeat_end c.loop-j.out (a.at + c.loop-j.j) c.loop-j.j 32 a.b c.loop-j-test.false) ∙ c.loop-j.invariant.whole

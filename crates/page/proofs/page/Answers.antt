@@ -1,0 +1,11 @@
+-- `page::page` meets its contract. Assumes nothing.
+use borrow.Author.Rules.{rules}
+use Rattle.page.specs.Call.{printed_of}
+use Rattle.page.proofs.Pages.{whole_page}
+use Rattle.page.proofs.page.Goals as goal
+
+pub returns : goal.returns
+returns c =
+    let a = c.args in
+    whole_page a.image.now a.out.now c.print_front.new.out c.size_hint-size.result
+    (printed_of c.print_front.result) c.size_hint-size.ensures c.print_front.ensures

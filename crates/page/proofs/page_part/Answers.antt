@@ -1,0 +1,16 @@
+-- `page::page_part` meets its contract. Assumes nothing.
+use native.Mathlib.Omega.{arith}
+use borrow.Author.Rules.{rules}
+use Rattle.page.specs.Call.{printed_of}
+use Rattle.page.proofs.Pages.{part_of_page}
+use Rattle.page.proofs.page_part.Goals as goal
+
+pub print_front-requires : goal.print_front-requires
+print_front-requires c = omega arith
+
+pub returns : goal.returns
+returns c =
+    let a = c.args in
+    part_of_page a.image.now a.out.now c.print_front.new.out a.first a.count c.size_hint-size.result
+    c.ids_below-lines.result (printed_of c.print_front.result) c.size_hint-size.ensures c.ids_below-lines.ensures
+    c.print_front.ensures

@@ -1,0 +1,42 @@
+-- `preflight::dates::some_invalid` meets its contract. The loop's invariant: the windows that are left decide. Assumes nothing.
+use Prim.Native.Nat.{◌-◌, ◌/◌}
+use native.Mathlib.Omega.{arith}
+use mathlib.Core.Path.{◌≡◌, sym, ap, ◌∙◌}
+use mathlib.Core.Bool.{true, false}
+use lib.ListN.{length}
+use borrow.Author.Rules.{rules}
+use Rattle.validity.specs.Rule.{some_window, invalid_dates}
+use Rattle.preflight.specs.Dates.{windows_from, windows_in}
+use Rattle.preflight.proofs.Windows.{some_end, some_turn, some_start}
+use Rattle.preflight.proofs.dates.some_invalid.Goals as goal
+
+pub loop-i-init : goal.loop-i-init
+loop-i-init c = let a = c.args in some_start invalid_dates a.windows.now
+
+pub returns-then-has_invalid_date : goal.returns-then-has_invalid_date
+returns-then-has_invalid_date c =
+    let a = c.args in
+    some_turn invalid_dates a.windows.now c.loop-i.i _ true c.loop-i-test.true
+    (ap invalid_dates (sym c.window_at.ensures) ∙ sym c.has_invalid_date.ensures ∙ c.if-has_invalid_date.true)
+    ∙ c.loop-i.invariant
+
+pub loop-i-preserved : goal.loop-i-preserved
+loop-i-preserved c =
+    let a = c.args in
+    some_turn invalid_dates a.windows.now c.loop-i.i _ false c.loop-i-test.true
+    (ap invalid_dates (sym c.window_at.ensures) ∙ sym c.has_invalid_date.ensures ∙ c.if-has_invalid_date.false)
+    ∙ c.loop-i.invariant
+
+pub returns : goal.returns
+returns c =
+    let a = c.args in
+    sym (some_end invalid_dates a.windows.now c.loop-i.i _ c.loop-i-test.false) ∙ c.loop-i.invariant
+
+pub window_at-requires : goal.window_at-requires
+window_at-requires c = omega arith
+
+pub overflow_add-i : goal.overflow_add-i
+overflow_add-i c = omega arith
+
+pub loop-i-smaller : goal.loop-i-smaller
+loop-i-smaller c = omega arith

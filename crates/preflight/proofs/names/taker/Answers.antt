@@ -1,0 +1,15 @@
+-- `preflight::names::taker` meets its contract. Assumes nothing.
+use mathlib.Core.Path.{sym, ◌∙◌}
+use borrow.Author.Rules.{rules}
+use borrow.Author.Tests.{not-true, not-false}
+use Rattle.preflight.proofs.names.taker.Goals as goal
+
+pub returns-then-not-lost : goal.returns-then-not-lost
+returns-then-not-lost c =
+    let l = c.lost in
+    simp (sym l.ensures ∙ c.if-not-lost.true)
+
+pub returns : goal.returns
+returns c =
+    let l = c.lost in
+    simp (sym l.ensures ∙ c.if-not-lost.false, c.first_other.ensures)

@@ -1,0 +1,15 @@
+-- `reader::lookup::search_rest` meets its contract. The loop's invariant: what is left of the search, from here on, answers what was left at the start.
+-- Assumes nothing.
+use Rattle.std.proofs.Common.{◌≡◌, ℕ, ◌-◌, sym, refl, ap, ◌∙◌, arith, rules}
+use Rattle.image.specs.Tables.{next}
+use Rattle.reader.specs.Lookup.{Lookup, nothing, Probe, pass, ends, hit, decide}
+use Rattle.reader.specs.Cases.{probe_of}
+use Rattle.reader.specs.Steps.Resume.{search_rest}
+use Rattle.reader.proofs.Searches.{RestInv, rest_over, rest_step}
+use Rattle.reader.proofs.lookup.search_rest.Given as goal
+
+abbrev pub invariant-loop-left : goal.invariant-loop-left
+invariant-loop-left l = RestInv l.image l.name l.h l.at l.n l.first l.m l.k l.left
+
+abbrev pub decreases-loop-left : goal.decreases-loop-left
+decreases-loop-left l = l.left

@@ -1,0 +1,6 @@
+-- `reader::naming::name` meets its contract. Assumes nothing.
+use Rattle.std.proofs.Common.{rules}
+use Rattle.reader.proofs.naming.name.Goals as goal
+
+pub returns : goal.returns
+returns c = c.name_or.ensures

@@ -1,0 +1,13 @@
+-- `reader::opening::some_past_end_by_each` meets its contract. The loop's invariant: a table that reaches past the end was found or is still to
+-- come exactly where there is one. Assumes nothing.
+use Rattle.std.proofs.Common.{◌≡◌, ℕ, ◌-◌, ◌≤◌, Bool, ◌||◌, sym, refl, ap, ◌∙◌, arith, rules}
+use mathlib.Core.Bool.{or-false}
+use Rattle.reader.specs.Open.{some_past_end}
+use Rattle.reader.proofs.Opens.{PastEndInv, past_end_join, past_end_none}
+use Rattle.reader.proofs.opening.some_past_end_by_each.Given as goal
+
+abbrev pub invariant-loop-t : goal.invariant-loop-t
+invariant-loop-t l = PastEndInv l.image l.one l.t
+
+abbrev pub decreases-loop-t : goal.decreases-loop-t
+decreases-loop-t l = 256 - l.t

@@ -1,0 +1,25 @@
+-- `serialize::tables::fill_tables` meets its contract. Assumes nothing.
+use Rattle.std.proofs.Common.{◌≡◌, ℕ, ◌+◌, ◌-◌, ◌*◌, ◌≤◌, Bool, false, List, length, take, sym, refl, ap, ◌∙◌, subst, arith, rules}
+use Rattle.image.proofs.Bools.{or_false_first, or_false_second}
+use Rattle.serialize.specs.Steps.Partition.{pairs_stored, tables_from}
+use Rattle.serialize.specs.Steps.Meeting.{Apart, TablesApart}
+use Rattle.serialize.proofs.Insertion.{not_met, stopped}
+use Rattle.serialize.proofs.PartitionSteps.{tables_step, front_kept, apart_next, tables_end}
+use Rattle.serialize.proofs.tables.fill_tables.Given as goal
+
+-- the tables from t on, filled in this buffer, leave what all tables leave
+pub record Filling (counts : List ℕ) (end : ℕ) (buf₀ copy₀ buf copy : List ℕ) (met : Bool) (o t : ℕ) : Type 0 where
+  pub most : t ≤ 256
+  pub long : length buf ≡ length buf₀
+  pub copy_long : length copy ≡ length copy₀
+  pub leaves : tables_from counts o t (256 - t) buf ≡ tables_from counts end 0 256 buf₀
+  pub near : o ≤ 4294967296 * (1 + 16 * t)
+  pub behind : end ≤ o
+  pub front : take end buf ≡ take end buf₀
+  pub apart : met ≡ false → TablesApart (take end buf₀) counts o t (256 - t) buf → TablesApart (take end buf₀) counts end 0 256 buf₀
+
+abbrev pub invariant-loop-t : goal.invariant-loop-t
+invariant-loop-t l = Filling l.counts l.end l.initial.buf l.initial.copy l.buf l.copy l.met l.o l.t
+
+abbrev pub decreases-loop-t : goal.decreases-loop-t
+decreases-loop-t l = 256 - l.t

@@ -1,0 +1,68 @@
+-- `writer::put_refusal` meets its contract. Assumes nothing.
+use native.Mathlib.Omega.{arith}
+use mathlib.Core.Path.{◌≡◌, sym, ap, ◌∙◌}
+use mathlib.Core.Bool.{true, false}
+use Rattle.image.specs.Image.{Entry}
+use lib.ListN.{length}
+use borrow.Author.Tests.{not-true, not-false}
+use Rattle.image.specs.Zero.{has_zero}
+use Rattle.writer.specs.State.{State, state_with, fits, finished_size, too_large}
+use Rattle.writer.specs.Put.{entry_of, writer_after_put, writer_after_entry}
+use Rattle.writer.specs.Steps.Earlier.{earlier_refusal}
+use Rattle.writer.proofs.Fits.{fitting, end_inside}
+use Rattle.writer.proofs.Puts.{refuses_unfit, refuses_zero, refuses_earlier, refuses_full, accepts, long_name}
+use borrow.Author.Rules.{rules}
+use Rattle.writer.proofs.put_refusal.Goals.{After-too_large, Else-earlier-ne0, Else-has_zero, Else-not-fits}
+use Rattle.writer.proofs.put_refusal.Goals as goal
+
+fitted : (c : Else-not-fits) → fits (state_with c.args.w c.args.counts.now c.args.buf.now) ≡ true
+fitted c = sym c.fits2.ensures ∙ c.if-not-fits.false
+
+zero_free : (c : Else-has_zero) → has_zero c.args.name.now ≡ false
+zero_free c = sym c.has_zero.ensures ∙ c.if-has_zero.false
+
+none_due : (c : Else-earlier-ne0) → earlier_refusal (state_with c.args.w c.args.counts.now c.args.buf.now) c.args.name.now ≡ 0
+none_due c = sym c.earlier_refusal-earlier.ensures ∙ c.if-earlier-ne0.false
+
+pub returns-then-not-fits : goal.returns-then-not-fits
+returns-then-not-fits c = refuses_unfit (state_with c.args.w c.args.counts.now c.args.buf.now) (entry_of c.args.name.now c.args.id) (sym c.fits2.ensures ∙ c.if-not-fits.true)
+
+pub returns-then-has_zero : goal.returns-then-has_zero
+returns-then-has_zero c =
+    refuses_zero (state_with c.args.w c.args.counts.now c.args.buf.now) (entry_of c.args.name.now c.args.id) (fitted (goal.at.returns-then-has_zero c).Else-not-fits) (sym c.has_zero.ensures ∙ c.if-has_zero.true)
+
+pub earlier_refusal-earlier-requires : goal.earlier_refusal-earlier-requires
+earlier_refusal-earlier-requires c =
+    let a = c.args in
+    end_inside (fitting a.w a.counts.now a.buf.now (fitted (goal.at.earlier_refusal-earlier-requires c).Else-not-fits))
+
+pub returns-then-earlier-ne0 : goal.returns-then-earlier-ne0
+returns-then-earlier-ne0 c =
+    refuses_earlier (state_with c.args.w c.args.counts.now c.args.buf.now) (entry_of c.args.name.now c.args.id) (fitted (goal.at.returns-then-earlier-ne0 c).Else-not-fits) (zero_free (goal.at.returns-then-earlier-ne0 c).Else-has_zero) c.earlier_refusal-earlier.result
+    c.earlier_refusal-earlier.ensures c.if-earlier-ne0.true
+
+pub returns-then-name-ge4294967295 : goal.returns-then-name-ge4294967295
+returns-then-name-ge4294967295 c =
+    let a = c.args in
+    refuses_full (state_with c.args.w c.args.counts.now c.args.buf.now) (entry_of c.args.name.now c.args.id) (fitted (goal.at.returns-then-name-ge4294967295 c).Else-not-fits) (zero_free (goal.at.returns-then-name-ge4294967295 c).Else-has_zero) (none_due (goal.at.returns-then-name-ge4294967295 c).Else-earlier-ne0) (long_name a.w a.name.now a.id c.if-name-ge4294967295.true)
+
+pub size_with-requires : goal.size_with-requires
+size_with-requires c =
+    let a = c.args in
+    record { low = omega (arith, c.well_formed, fitting a.w a.counts.now a.buf.now (fitted (goal.at.size_with-requires c).Else-not-fits)); short = c.if-name-ge4294967295.false }
+
+-- the size after this put, as the last check reads it
+sized : (c : After-too_large) → let a = c.args in
+    too_large a.w.length (finished_size (writer_after_put a.w (length a.name.now) a.id)) ≡ c.too_large.result
+sized c =
+    ap (too_large c.args.w.length) (sym c.size_with.ensures) ∙ sym c.too_large.ensures
+
+pub returns-then-too_large : goal.returns-then-too_large
+unfolding writer_after_entry
+returns-then-too_large c =
+    refuses_full (state_with c.args.w c.args.counts.now c.args.buf.now) (entry_of c.args.name.now c.args.id) (fitted (goal.at.returns-then-too_large c).Else-not-fits) (zero_free (goal.at.returns-then-too_large c).Else-has_zero) (none_due (goal.at.returns-then-too_large c).Else-earlier-ne0) (sized (goal.at.returns-then-too_large c).After-too_large ∙ c.if-too_large.true)
+
+pub returns : goal.returns
+unfolding writer_after_entry
+returns c =
+    accepts (state_with c.args.w c.args.counts.now c.args.buf.now) (entry_of c.args.name.now c.args.id) (fitted (goal.at.returns c).Else-not-fits) (zero_free (goal.at.returns c).Else-has_zero) (none_due (goal.at.returns c).Else-earlier-ne0) (sized (goal.at.returns c).After-too_large ∙ c.if-too_large.false)
