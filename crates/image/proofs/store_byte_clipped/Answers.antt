@@ -1,6 +1,6 @@
 -- `image::store_byte_clipped` meets its contract. Assumes nothing.
 use lib.Seq.{set_out}
-use Rattle.std.proofs.Common.{sym, rules}
+use Rattle.std.proofs.Common.{sym}
 use Rattle.image.proofs.store_byte_clipped.Goals as goal
 
 pub returns-else-at-buf : goal.returns-else-at-buf

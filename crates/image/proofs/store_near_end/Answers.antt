@@ -1,6 +1,6 @@
 -- `image::store_near_end` meets its contract. Assumes nothing.
 use Rattle.image.proofs.Words.{stored}
-use Rattle.std.proofs.Common.{◌≡◌, ◌+◌, ◌/◌, ◌%◌, set, ◌∙◌, rules}
+use Rattle.std.proofs.Common.{◌≡◌, ◌+◌, ◌/◌, ◌%◌, set, ◌∙◌}
 use Rattle.image.proofs.store_near_end.Goals as goal
 
 pub returns : goal.returns

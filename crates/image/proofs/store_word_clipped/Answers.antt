@@ -1,7 +1,7 @@
 -- `image::store_word_clipped` meets its contract. Assumes nothing.
 use Rattle.image.proofs.Words.{sets_past}
 use Rattle.image.specs.Bytes.{le32}
-use Rattle.std.proofs.Common.{sym, rules}
+use Rattle.std.proofs.Common.{sym}
 use Rattle.image.proofs.store_word_clipped.Goals as goal
 
 pub returns-then-buf-at : goal.returns-then-buf-at

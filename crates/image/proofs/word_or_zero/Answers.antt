@@ -1,5 +1,5 @@
 -- `image::word_or_zero` meets its contract. Assumes nothing.
-use Rattle.std.proofs.Common.{sym, rules}
+use Rattle.std.proofs.Common.{sym}
 use Rattle.jhash.proofs.WordRead.{word_past}
 use Rattle.image.proofs.word_or_zero.Goals as goal
 

@@ -1,6 +1,5 @@
 -- `jhash::added_block` meets its contract. Assumes nothing.
 use Rattle.jhash.proofs.Mixing.{words_added}
-use Rattle.std.proofs.Common.{rules}
 use Rattle.jhash.proofs.added_block.Goals as goal
 
 pub returns : goal.returns

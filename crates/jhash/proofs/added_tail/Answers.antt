@@ -1,5 +1,5 @@
 -- `jhash::added_tail` meets its contract: a word past the end is 0. Assumes nothing.
-use Rattle.std.proofs.Common.{sym, arith, rules}
+use Rattle.std.proofs.Common.{sym, arith}
 use Rattle.jhash.proofs.WordRead.{word_past}
 use Rattle.jhash.proofs.Mixing.{words_added}
 use Rattle.jhash.proofs.added_tail.Goals as goal

@@ -1,6 +1,5 @@
 -- `jhash::final_step` meets its contract, field by field. Assumes nothing.
 use Rattle.jhash.specs.Steps.Rounds.{final_step}
-use Rattle.std.proofs.Common.{rules}
 use Rattle.jhash.proofs.final_step.Goals as goal
 
 pub returns : goal.returns

@@ -1,5 +1,5 @@
 -- `jhash::final_word` meets its contract. Assumes nothing.
-use Rattle.std.proofs.Common.{ap, ◌∙◌, rules}
+use Rattle.std.proofs.Common.{ap, ◌∙◌}
 use lib.Bits.{bit_xor}
 use Rattle.jhash.specs.Lookup3.{sub32}
 use Rattle.jhash.proofs.Rotation.{by_amount}

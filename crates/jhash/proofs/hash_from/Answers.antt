@@ -1,6 +1,6 @@
 -- `jhash::hash_from` meets its contract. The loop's invariant: the hash of what is left, from the words that are reached, is the
 -- hash of the whole. The measure is the length of what is left. Assumes nothing.
-use Rattle.std.proofs.Common.{◌≡◌, ℕ, ◌-◌, List, [], ◌∷◌, ◌++◌, length, drop, ap, ◌∙◌, arith, length-drop, length-take, take_all, rules}
+use Rattle.std.proofs.Common.{◌≡◌, ℕ, ◌-◌, List, [], ◌∷◌, ◌++◌, length, drop, ap, ◌∙◌, arith, length-drop, length-take, take_all}
 use Rattle.jhash.specs.Lookup3.{added, mix, final, equal_words, hash_rest}
 use Rattle.jhash.specs.declared.Words.{Words}
 use Rattle.jhash.proofs.Blocks.{block_step, last_block}

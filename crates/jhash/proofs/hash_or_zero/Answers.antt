@@ -1,5 +1,5 @@
 -- `jhash::hash_or_zero` meets its contract. Assumes nothing.
-use Rattle.std.proofs.Common.{sym, ◌∙◌, rules}
+use Rattle.std.proofs.Common.{sym, ◌∙◌}
 use Rattle.jhash.proofs.Outcomes.{result_name_hash, result_refused, hash_or_zero_short, hash_or_zero_long}
 use Rattle.jhash.proofs.hash_or_zero.Goals as goal
 

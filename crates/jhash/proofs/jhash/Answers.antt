@@ -1,5 +1,4 @@
 -- `jhash::jhash` meets its contract. Assumes nothing.
-use Rattle.std.proofs.Common.{rules}
 use Rattle.jhash.proofs.Limit.{refuses, short, hashes}
 use Rattle.jhash.proofs.jhash.Goals as goal
 

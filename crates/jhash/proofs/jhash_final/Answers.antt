@@ -1,6 +1,5 @@
 -- `jhash::jhash_final` meets its contract. Assumes nothing.
 use Rattle.jhash.proofs.Mixing.{seven_steps}
-use Rattle.std.proofs.Common.{rules}
 use Rattle.jhash.proofs.jhash_final.Goals as goal
 
 pub returns : goal.returns

@@ -1,6 +1,5 @@
 -- `jhash::jhash_mix` meets its contract. Assumes nothing.
 use Rattle.jhash.proofs.Mixing.{six_rounds}
-use Rattle.std.proofs.Common.{rules}
 use Rattle.jhash.proofs.jhash_mix.Goals as goal
 
 pub returns : goal.returns

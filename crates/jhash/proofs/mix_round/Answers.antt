@@ -2,7 +2,6 @@
 use lib.Bits.{bit_xor}
 use Rattle.jhash.specs.Steps.Rounds.{mix_round}
 use Rattle.jhash.proofs.Rotation.{by_amount}
-use Rattle.std.proofs.Common.{rules}
 use Rattle.jhash.proofs.mix_round.Goals as goal
 
 pub returns : goal.returns

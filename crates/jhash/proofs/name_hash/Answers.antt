@@ -1,5 +1,4 @@
 -- `jhash::name_hash` meets its contract. Assumes nothing.
-use Rattle.std.proofs.Common.{rules}
 use Rattle.jhash.proofs.Limit.{refuses, short, hashes}
 use Rattle.jhash.proofs.name_hash.Goals as goal
 

@@ -1,6 +1,5 @@
 -- `jhash::plus` meets its contract, field by field. Assumes nothing.
 use Rattle.jhash.specs.Lookup3.{plus}
-use Rattle.std.proofs.Common.{rules}
 use Rattle.jhash.proofs.plus.Goals as goal
 
 pub returns : goal.returns

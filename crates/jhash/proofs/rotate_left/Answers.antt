@@ -1,6 +1,5 @@
 -- `jhash::rotate_left` meets its contract, for every word and amount. Assumes nothing.
 use Rattle.jhash.proofs.Rotation.{product_fits, sum_fits, sum_rotates}
-use Rattle.std.proofs.Common.{rules}
 use Rattle.jhash.proofs.rotate_left.Goals as goal
 
 pub overflow_mul-x : goal.overflow_mul-x

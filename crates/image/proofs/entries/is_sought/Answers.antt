@@ -1,5 +1,5 @@
 -- `image::entries::is_sought` meets its contract. Assumes nothing.
-use Rattle.std.proofs.Common.{sym, rules}
+use Rattle.std.proofs.Common.{sym}
 use Rattle.image.proofs.EntryWalk.{other_hash}
 use Rattle.image.proofs.entries.is_sought.Goals as goal
 

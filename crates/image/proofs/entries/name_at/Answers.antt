@@ -1,5 +1,5 @@
 -- `image::entries::name_at` meets its contract. Assumes nothing.
-use Rattle.std.proofs.Common.{◌≡◌, ℕ, ◌+◌, ◌-◌, take, drop, ap, arith, length-drop, length-take, rules}
+use Rattle.std.proofs.Common.{◌≡◌, ℕ, ◌+◌, ◌-◌, take, drop, ap, arith, length-drop, length-take}
 use Rattle.image.proofs.entries.name_at.Goals as goal
 
 pub returns : goal.returns

@@ -1,5 +1,5 @@
 -- `image::entries::raise` meets its contract. Assumes nothing.
-use Rattle.std.proofs.Common.{refl, rules}
+use Rattle.std.proofs.Common.{refl}
 use Rattle.image.specs.Tally.{raised_counts}
 use Rattle.image.proofs.entries.raise.Goals as goal
 

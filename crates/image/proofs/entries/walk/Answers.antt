@@ -1,12 +1,12 @@
 -- `image::entries::walk` meets its contract. Assumes nothing.
-use Rattle.std.proofs.Common.{◌≡◌, ◌<◌, sym, refl, ◌∙◌, arith, rules}
+use Rattle.std.proofs.Common.{◌≡◌, ◌<◌, sym, refl, ◌∙◌, arith}
 use Rattle.jhash.specs.NameHash.{hash_of}
 use Rattle.jhash.proofs.Outcomes.{hash_or_zero_short}
 use Rattle.image.specs.Tables.{table_of}
 use Rattle.image.specs.Stored.{between}
 use Rattle.image.proofs.Bools.{false_not_true}
 use Rattle.image.proofs.Between.{Front, front, EntryRoom, entry_room}
-use Rattle.image.proofs.EntryWalk.{WalkInv, walk_start, walk_step, walk_broken, walk_end, contains_step, contains_end}
+use Rattle.image.proofs.EntryWalk.{walk_start, walk_step, walk_broken, walk_end, contains_step, contains_end}
 use Rattle.image.proofs.entries.walk.Goals.{After-hash_or_zero-h, Else-n-eq0}
 use Rattle.image.proofs.entries.walk.Goals as goal
 
@@ -27,9 +27,14 @@ hash k =
     let name = k.name_at-name in
     let n = k.whole_length-n in
     k.hash_or_zero-h.ensures
-    ∙ hash_or_zero_short name.result.now (omega (arith, name.ensures.size, n.ensures.small, (let the-inside : EntryRoom k.args.buf.now k.loop-left.at k.args.end k.whole_length-n.result = let n = k.whole_length-n in
-    entry_room k.args.buf.now k.loop-left.at k.args.end n.result k.loop-left.invariant.rest.inside
-    k.requires.inside n.ensures.is k.if-n-eq0.false in the-inside).name.some))
+    ∙ hash_or_zero_short name.result.now (omega (
+      arith,
+      name.ensures.size,
+      n.ensures.small,
+      (let the-inside : EntryRoom k.args.buf.now k.loop-left.at k.args.end k.whole_length-n.result = let n = k.whole_length-n in
+          entry_room k.args.buf.now k.loop-left.at k.args.end n.result k.loop-left.invariant.rest.inside
+          k.requires.inside n.ensures.is k.if-n-eq0.false in the-inside).name.some,
+    ))
 
 pub loop-left-init : goal.loop-left-init
 loop-left-init c =

@@ -1,5 +1,5 @@
 -- `image::entries::whole_length` meets its contract. Assumes nothing.
-use Rattle.std.proofs.Common.{arith, rules}
+use Rattle.std.proofs.Common.{arith}
 use Rattle.image.proofs.Between.{short_there, none_there, cut_there, open_there, whole_there}
 use Rattle.image.proofs.entries.whole_length.Goals as goal
 

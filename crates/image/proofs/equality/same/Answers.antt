@@ -1,7 +1,7 @@
 -- `image::equality::same` meets its contract. The loop's invariant: what is left is equal exactly where the whole is. Assumes nothing.
-use Rattle.std.proofs.Common.{◌-◌, length, sym, refl, ◌∙◌, arith, rules}
+use Rattle.std.proofs.Common.{sym, refl, ◌∙◌, arith, rules}
 use Rattle.jhash.specs.Word.{AllBytes}
-use Rattle.image.proofs.Equal.{SameInv, same_lengths, other_word8, same_word8}
+use Rattle.image.proofs.Equal.{same_lengths, other_word8, same_word8}
 use Rattle.image.proofs.equality.same.Goals.{After-word8-in-loop-i}
 use Rattle.image.proofs.equality.same.Goals as goal
 

@@ -1,7 +1,6 @@
 -- `image::equality::same` meets its contract. The loop's invariant: what is left is equal exactly where the whole is. Assumes nothing.
-use Rattle.std.proofs.Common.{◌-◌, length, sym, refl, ◌∙◌, arith, rules}
-use Rattle.jhash.specs.Word.{AllBytes}
-use Rattle.image.proofs.Equal.{SameInv, same_lengths, other_word8, same_word8}
+use Rattle.std.proofs.Common.{◌-◌, length}
+use Rattle.image.proofs.Equal.{SameInv}
 use Rattle.image.proofs.equality.same.Given as goal
 
 abbrev pub invariant-loop-i : goal.invariant-loop-i

@@ -1,8 +1,7 @@
 -- `image::equality::same_from` meets its contract. The loop's invariant: what is left from here on is equal exactly where all from the start on is.
 -- Assumes nothing.
-use Rattle.std.proofs.Common.{◌≡◌, ◌+◌, ◌-◌, ◌≤◌, length, drop, sym, refl, ◌∙◌, arith, rules}
-use Rattle.image.specs.Bytes.{same}
-use Rattle.image.proofs.Equal.{SameInv, other_byte, equal_byte, same_none}
+use Rattle.std.proofs.Common.{◌+◌, sym, refl, ◌∙◌, arith, rules}
+use Rattle.image.proofs.Equal.{other_byte, equal_byte, same_none}
 use Rattle.image.proofs.equality.same_from.Goals as goal
 
 pub loop-i-init : goal.loop-i-init

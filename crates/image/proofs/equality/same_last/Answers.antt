@@ -1,5 +1,5 @@
 -- `image::equality::same_last` meets its contract. Assumes nothing.
-use Rattle.std.proofs.Common.{sym, ◌∙◌, arith, rules}
+use Rattle.std.proofs.Common.{sym, ◌∙◌, arith}
 use Rattle.image.proofs.Equal.{other_word, same_word}
 use Rattle.image.proofs.equality.same_last.Goals as goal
 

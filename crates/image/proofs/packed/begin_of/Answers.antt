@@ -1,5 +1,5 @@
 -- `image::packed::begin_of` meets its contract. Assumes nothing.
-use Rattle.std.proofs.Common.{ℕ, ◌-◌, Bool, cond, get_or, sym, ap, rules, eq-eqb, ne_eqb}
+use Rattle.std.proofs.Common.{◌-◌, Bool, cond, get_or, sym, ap, eq-eqb, ne_eqb}
 use Rattle.image.proofs.packed.begin_of.Goals as goal
 
 pub returns-then-i-eq0 : goal.returns-then-i-eq0

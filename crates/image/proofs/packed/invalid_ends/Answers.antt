@@ -1,8 +1,6 @@
 -- `image::packed::invalid_ends` meets its contract. The loop's invariant: what was found or is still to be found is the whole test. Assumes nothing.
-use Rattle.std.proofs.Common.{◌≡◌, ℕ, ◌-◌, ◌≤◌, Bool, ◌||◌, List, length, drop, refl, arith}
-use Rattle.image.specs.PackedNames.{invalid_ends}
+use Rattle.std.proofs.Common.{refl, arith}
 use Rattle.image.proofs.NameEnds.{invalid_ends_step, invalid_ends_none}
-use Rattle.image.proofs.packed.invalid_ends.Invariants.{Inv}
 use Rattle.image.proofs.packed.invalid_ends.Goals as goal
 
 pub loop-i-init : goal.loop-i-init

@@ -1,7 +1,6 @@
 -- `image::packed::invalid_ends` meets its contract. The loop's invariant: what was found or is still to be found is the whole test. Assumes nothing.
-use Rattle.std.proofs.Common.{◌≡◌, ℕ, ◌-◌, ◌≤◌, Bool, ◌||◌, List, length, drop, refl, arith}
+use Rattle.std.proofs.Common.{◌≡◌, ℕ, ◌-◌, ◌≤◌, Bool, ◌||◌, List, length, drop}
 use Rattle.image.specs.PackedNames.{invalid_ends}
-use Rattle.image.proofs.NameEnds.{invalid_ends_step, invalid_ends_none}
 use Rattle.image.proofs.packed.invalid_ends.Given as goal
 
 pub record Inv (ends : List ℕ) (size : ℕ) (bad : Bool) (start i : ℕ) : Type 0 where

@@ -1,5 +1,5 @@
 -- `image::packed::nth_name` meets its contract. Assumes nothing.
-use Rattle.std.proofs.Common.{ℕ, length, get_or, sym, ap, ◌∙◌, arith, rules}
+use Rattle.std.proofs.Common.{ℕ, length, get_or, sym, ap, ◌∙◌, arith}
 use Rattle.image.specs.Stored.{between}
 use Rattle.image.specs.PackedNames.{begin_of}
 use Rattle.image.proofs.NameEnds.{Placed, placed, nth_name}

@@ -1,5 +1,5 @@
 -- `image::probe::first_empty` meets its contract. Assumes nothing.
-use Rattle.std.proofs.Common.{◌∙◌, rules}
+use Rattle.std.proofs.Common.{◌∙◌}
 use Rattle.image.proofs.FirstEmpty.{none_hidden}
 use Rattle.image.proofs.probe.first_empty.Goals as goal
 

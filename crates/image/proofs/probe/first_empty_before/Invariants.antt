@@ -1,7 +1,7 @@
 -- `image::probe::first_empty_before` meets its contract. Assumes nothing.
-use Rattle.std.proofs.Common.{◌≡◌, ℕ, sym, refl, ap, ◌∙◌, arith, rules}
+use Rattle.std.proofs.Common.{ℕ}
 use Rattle.image.specs.Steps.Contracts.{offset_at, hidden}
-use Rattle.image.proofs.FirstEmpty.{Probing, probing_here, probing_next, probing_none}
+use Rattle.image.proofs.FirstEmpty.{Probing}
 use Rattle.image.proofs.probe.first_empty_before.Given as goal
 
 abbrev pub invariant-loop-left : goal.invariant-loop-left

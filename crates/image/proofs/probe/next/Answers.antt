@@ -1,5 +1,5 @@
 -- `image::probe::next` meets its contract. Assumes nothing.
-use Rattle.std.proofs.Common.{arith, rules}
+use Rattle.std.proofs.Common.{arith}
 use Rattle.image.proofs.ProbeStep.{next_inside, next_wraps}
 use Rattle.image.proofs.probe.next.Goals as goal
 

@@ -1,5 +1,5 @@
 -- `image::probe::start` meets its contract. Assumes nothing.
-use Rattle.std.proofs.Common.{◌/◌, refl, mod-lt, rules}
+use Rattle.std.proofs.Common.{◌/◌, refl, mod-lt}
 use Rattle.image.proofs.probe.start.Goals as goal
 
 pub returns : goal.returns

@@ -1,7 +1,6 @@
 -- `image::scratch::clear_words` meets its contract. The loop's invariant: the words before i are 0. Assumes nothing.
-use Rattle.std.proofs.Common.{◌≡◌, ℕ, ◌+◌, ◌-◌, ◌<◌, ◌≤◌, List, length, get_or, set, refl, ap, ◌∙◌, arith, length-set, get_or-set_other, get_or-set_same, rules}
+use Rattle.std.proofs.Common.{◌≡◌, ℕ, ◌+◌, ◌<◌, List, length, get_or, set, refl, ap, ◌∙◌, arith, length-set, get_or-set_other, get_or-set_same, rules}
 use native.Mathlib.Decide.{ℕ_discrete}
-use Rattle.image.proofs.scratch.clear_words.Invariants.{ClearInv}
 use Rattle.image.proofs.scratch.clear_words.Goals as goal
 
 -- one more word is 0

@@ -1,6 +1,5 @@
 -- `image::scratch::clear_words` meets its contract. The loop's invariant: the words before i are 0. Assumes nothing.
-use Rattle.std.proofs.Common.{◌≡◌, ℕ, ◌+◌, ◌-◌, ◌<◌, ◌≤◌, List, length, get_or, set, refl, ap, ◌∙◌, arith, length-set, get_or-set_other, get_or-set_same, rules}
-use native.Mathlib.Decide.{ℕ_discrete}
+use Rattle.std.proofs.Common.{◌≡◌, ℕ, ◌-◌, ◌<◌, ◌≤◌, List, length, get_or}
 use Rattle.image.proofs.scratch.clear_words.Given as goal
 
 pub record ClearInv (words₀ : List ℕ) (n : ℕ) (words : List ℕ) (i : ℕ) : Type 0 where

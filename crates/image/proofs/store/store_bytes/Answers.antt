@@ -1,7 +1,6 @@
 -- `image::store::store_bytes` meets its contract. Assumes nothing.
-use Rattle.std.proofs.Common.{◌≡◌, ◌+◌, ◌-◌, ◌≤◌, [], length, drop, refl, ◌∙◌, add-zero, arith, length-set, drop_of_length-le, rules}
-use Rattle.image.proofs.Stores.{StoreInv, sets_step}
-use lib.Seq.{sets}
+use Rattle.std.proofs.Common.{◌≡◌, [], drop, refl, ◌∙◌, add-zero, arith, length-set, drop_of_length-le, rules}
+use Rattle.image.proofs.Stores.{sets_step}
 use Rattle.image.proofs.store.store_bytes.Goals as goal
 
 pub loop-j-init : goal.loop-j-init

@@ -1,7 +1,6 @@
 -- `image::store::store_bytes` meets its contract. Assumes nothing.
-use Rattle.std.proofs.Common.{◌≡◌, ◌+◌, ◌-◌, ◌≤◌, [], length, drop, refl, ◌∙◌, add-zero, arith, length-set, drop_of_length-le, rules}
-use Rattle.image.proofs.Stores.{StoreInv, sets_step}
-use lib.Seq.{sets}
+use Rattle.std.proofs.Common.{◌-◌, length}
+use Rattle.image.proofs.Stores.{StoreInv}
 use Rattle.image.proofs.store.store_bytes.Given as goal
 
 abbrev pub invariant-loop-j : goal.invariant-loop-j

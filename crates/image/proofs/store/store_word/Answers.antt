@@ -1,8 +1,6 @@
 -- `image::store::store_word` meets its contract. Assumes nothing.
 use Rattle.image.proofs.Words.{stored}
-use Rattle.std.proofs.Common.{arith, length-set, rules}
-use Rattle.image.proofs.store.store_word.Reads as reads
-use Rattle.image.proofs.store.store_word.Lts as lts
+use Rattle.std.proofs.Common.{arith, length-set}
 use Rattle.image.proofs.store.store_word.Goals as goal
 
 pub bounds-buf-at-2 : goal.bounds-buf-at-2

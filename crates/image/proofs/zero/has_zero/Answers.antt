@@ -1,7 +1,7 @@
 -- `image::zero::has_zero` meets its contract. The loop's invariant: what is left has a zero byte exactly where the name has. Assumes nothing.
-use Rattle.std.proofs.Common.{ℕ, ◌-◌, List, length, sym, ◌∙◌, arith, rules}
+use Rattle.std.proofs.Common.{◌-◌, length, sym, ◌∙◌, arith}
 use Rattle.image.proofs.Bools.{or_false_first, or_false_second}
-use Rattle.image.proofs.Zeros.{ZeroInv, zero_at_an_end, none_in_first, zero_in_front, none_in_front, zero_last, zero_overlap}
+use Rattle.image.proofs.Zeros.{zero_at_an_end, none_in_first, zero_in_front, none_in_front, zero_last, zero_overlap}
 use Rattle.image.proofs.zero.has_zero.Goals as goal
 
 pub returns-then-name-lt8 : goal.returns-then-name-lt8

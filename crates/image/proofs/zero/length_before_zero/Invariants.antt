@@ -1,6 +1,6 @@
 -- `image::zero::length_before_zero` meets its contract. Assumes nothing.
-use Rattle.std.proofs.Common.{◌-◌, length, refl, ap, arith, rules}
-use Rattle.image.proofs.Zeros.{BeforeInv, before_none, before_there, before_further}
+use Rattle.std.proofs.Common.{◌-◌, length}
+use Rattle.image.proofs.Zeros.{BeforeInv}
 use Rattle.image.proofs.zero.length_before_zero.Given as goal
 
 abbrev pub invariant-loop-i : goal.invariant-loop-i

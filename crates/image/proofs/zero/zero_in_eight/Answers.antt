@@ -1,6 +1,5 @@
 -- `image::zero::zero_in_eight` meets its contract. Assumes nothing.
 use Rattle.image.proofs.Zeros.{zero_eight}
-use Rattle.std.proofs.Common.{rules}
 use Rattle.image.proofs.zero.zero_in_eight.Goals as goal
 
 pub returns : goal.returns

@@ -1,6 +1,5 @@
 -- `image::zero::zero_in_four` meets its contract. Assumes nothing.
 use Rattle.image.proofs.Zeros.{zero_four}
-use Rattle.std.proofs.Common.{rules}
 use Rattle.image.proofs.zero.zero_in_four.Goals as goal
 
 pub returns : goal.returns

@@ -1,5 +1,5 @@
 -- `image::zero::zero_in_short` meets its contract. Assumes nothing.
-use Rattle.std.proofs.Common.{ℕ, ltb, length, ap, ◌∙◌, arith, rules}
+use Rattle.std.proofs.Common.{ℕ, ltb, length, ap, ◌∙◌, arith}
 use Rattle.image.proofs.Zeros.{zero_ends, before_test}
 use Rattle.image.proofs.zero.zero_in_short.Goals as goal
 

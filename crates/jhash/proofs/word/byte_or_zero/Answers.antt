@@ -1,5 +1,5 @@
 -- `jhash::word::byte_or_zero` meets its contract. Assumes nothing.
-use Rattle.std.proofs.Common.{sym, arith, rules}
+use Rattle.std.proofs.Common.{sym, arith}
 use lib.ListN.{get_or-eq_default}
 use Rattle.jhash.proofs.word.byte_or_zero.Goals as goal
 

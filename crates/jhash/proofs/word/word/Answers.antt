@@ -1,6 +1,5 @@
 -- `jhash::word::word` meets its contract. Assumes nothing.
 use Rattle.jhash.proofs.WordRead.{word_of}
-use Rattle.std.proofs.Common.{rules}
 use Rattle.jhash.proofs.word.word.Goals as goal
 
 pub returns : goal.returns

@@ -1,5 +1,5 @@
 -- `jhash::word::word_near_end` meets its contract. Assumes nothing.
-use Rattle.std.proofs.Common.{sym, arith, rules}
+use Rattle.std.proofs.Common.{sym, arith}
 use Rattle.jhash.proofs.WordRead.{word_past, word_short}
 use Rattle.jhash.proofs.word.word_near_end.Goals as goal
 
