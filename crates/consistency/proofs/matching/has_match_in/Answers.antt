@@ -3,12 +3,11 @@
 use Prim.Native.Nat.{ℕ, ◌-◌}
 use native.Mathlib.Omega.{arith}
 use mathlib.Core.Path.{◌≡◌, sym, ap, ◌∙◌}
-use mathlib.Core.Bool.{Bool}
 use Rattle.image.specs.Tables.{next}
 use Rattle.reader.specs.Lookup.{Probe, pass, ends, hit}
 use Rattle.consistency.specs.Matches.{Matches, add_match, matches_in, any_match}
 use Rattle.reader.specs.Cases.{probe_of}
-use Rattle.consistency.proofs.MatchSearch.{matches_rest, MatchInv, matches_start, matches_over, matches_step, this_one, another}
+use Rattle.consistency.proofs.MatchSearch.{matches_rest, matches_start, matches_over, matches_step, this_one, another}
 use borrow.Author.Rules.{rules}
 use Rattle.consistency.proofs.matching.has_match_in.Goals.{After-probe_bucket, in-Pass, in-Hit+else-hit-id}
 use Rattle.consistency.proofs.matching.has_match_in.Goals as goal
