@@ -28,7 +28,7 @@ use Rattle.lookup_laws.proofs.ProbeSequence.{matches_ext}
 use Rattle.lookup_laws.proofs.SearchFilling.{hits_in}
 use Rattle.lookup_laws.proofs.TableSearch.{probe_with, Searched, searched_same, searched}
 use Rattle.image.proofs.At.{at_left, at_word, at_second}
-use Rattle.image.proofs.Parts.{placed_in, most, table_at_image, bucket_number_image, bucket_at_lem}
+use Rattle.image.proofs.Parts.{placed_in, table_at_image, bucket_number_image, bucket_at_lem}
 use Rattle.lookup_laws.proofs.ImageOpening.{long_enough, table_inside}
 use Rattle.image.proofs.EntryAt.{EntryAt, entry_fits, all_entries_at, all_placed, ids_below}
 use Rattle.lookup_laws.proofs.EntryProbe.{probe_entry_at}

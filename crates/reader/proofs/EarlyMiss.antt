@@ -2,7 +2,7 @@
 use Rattle.std.proofs.Common.{◌≡◌, ℕ, zero, suc, ◌+◌, ◌-◌, ◌*◌, ◌<◌, ◌≤◌, true, false, List, sym, refl, ap, ◌∙◌, arith, eq-eqb, ne_eqb}
 use native.Mathlib.Decide.{dec_lt}
 use Rattle.image.specs.Bytes.{word}
-use Rattle.image.specs.Tables.{start, next}
+use Rattle.image.specs.Tables.{next}
 use Rattle.image.proofs.ProbeStep.{next_inside, next_wraps}
 use Rattle.reader.specs.Lookup.{nothing, pass, ends, search_table}
 use Rattle.reader.specs.Steps.Resume.{search_rest}

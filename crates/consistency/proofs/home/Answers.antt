@@ -4,7 +4,6 @@ use mathlib.Core.Path.{sym, ap, ◌∙◌}
 use Rattle.reader.specs.Cases.{naming_of}
 use Rattle.reader.proofs.Namings.{named}
 use Rattle.consistency.proofs.MatchSearch.{home_by_lem, not_home}
-use borrow.Author.Rules.{rules}
 use Rattle.consistency.proofs.home.Goals as goal
 
 pub overflow_add-end : goal.overflow_add-end

@@ -7,7 +7,6 @@ use lib.ListN.{length}
 use Rattle.jhash.proofs.Outcomes.{result_name_hash, result_refused}
 use Rattle.consistency.specs.Matches.{matches_by_hash, any_match}
 use Rattle.consistency.proofs.MatchSearch.{matches_by}
-use borrow.Author.Rules.{rules}
 use Rattle.consistency.proofs.matching.has_match.Goals as goal
 
 pub returns-then-image-lt-HEAD_SIZE : goal.returns-then-image-lt-HEAD_SIZE

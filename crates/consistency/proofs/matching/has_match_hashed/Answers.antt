@@ -3,7 +3,6 @@ use Prim.Native.Nat.{◌<◌}
 use native.Mathlib.Omega.{arith}
 use mathlib.Core.Path.{◌∙◌}
 use Rattle.consistency.proofs.MatchSearch.{matches_unread, matches_read}
-use borrow.Author.Rules.{rules}
 use Rattle.consistency.proofs.matching.has_match_hashed.Goals as goal
 
 pub returns-then-table-eq0 : goal.returns-then-table-eq0

@@ -3,18 +3,16 @@
 use Prim.Native.Nat.{ℕ, ◌-◌}
 use native.Mathlib.Omega.{arith}
 use mathlib.Core.Path.{◌≡◌, sym, ap, ◌∙◌}
-use mathlib.Core.Bool.{Bool}
-use mathlib.Core.Logic.{⊎_elim}
 use Rattle.image.specs.Tables.{next}
 use Rattle.reader.specs.Lookup.{Probe, pass, ends, hit}
 use Rattle.consistency.specs.Matches.{Matches, add_match, matches_in, any_match}
 use Rattle.reader.specs.Cases.{probe_of}
-use Rattle.consistency.proofs.MatchSearch.{matches_rest, MatchInv, matches_start, matches_over, matches_step, this_one, another}
+use Rattle.consistency.proofs.MatchSearch.{matches_rest, matches_start, matches_over, matches_step, this_one, another}
 use borrow.Author.Rules.{rules}
-use Rattle.consistency.proofs.matching.has_match_in.Goals.{After-probe_bucket}
+use Rattle.consistency.proofs.matching.has_match_in.Goals.{After-probe_bucket, in-Pass, in-Hit+else-hit-id}
 use Rattle.consistency.proofs.matching.has_match_in.Goals as goal
 
-left_of : (c : After-probe_bucket) → ℕ → Matches
+abbrev left_of : (c : After-probe_bucket) → ℕ → Matches
 left_of c j =
     let a = c.args in
     matches_rest a.image.now a.name.now a.h a.at a.n j (c.loop-left.left - 1)
@@ -64,12 +62,12 @@ loop-left-preserved c =
       bucket = c.next-k.ensures.inside;
       most = omega arith;
       same = ap (λ (j : ℕ). any_match c.args.id (left_of (goal.at.loop-left-preserved c).After-probe_bucket j)) c.next-k.ensures.is
-          ∙ ⊎_elim (λ w. step (goal.at.loop-left-preserved c).After-probe_bucket pass (ap probe_of w.1.given.1))
-          (λ w.
-          let told = w.1.given.0.0 in
-          another told.id c.args.id (any_match c.args.id (left_of (goal.at.loop-left-preserved c).After-probe_bucket (next c.args.n c.loop-left.k))) w.4.left
-          ∙ step (goal.at.loop-left-preserved c).After-probe_bucket (hit (record { id = told.id; offset = told.offset })) (ap probe_of w.1.given.1))
-          c.match-probe_bucket.branch;
+          ∙ elim c.match-probe_bucket.branch [
+            | in-Pass w ↦ step (goal.at.loop-left-preserved c).After-probe_bucket pass (ap probe_of w.in-Pass.is)
+            | in-Hit+else-hit-id w ↦
+                another w.in-Hit.hit.id c.args.id (any_match c.args.id (left_of (goal.at.loop-left-preserved c).After-probe_bucket (next c.args.n c.loop-left.k))) w.if-hit-id.false
+                ∙ step (goal.at.loop-left-preserved c).After-probe_bucket (hit (record { id = w.in-Hit.hit.id; offset = w.in-Hit.hit.offset })) (ap probe_of w.in-Hit.is)
+          ];
     }
 
 pub returns : goal.returns

@@ -6,7 +6,6 @@ use lib.ListN.{length}
 use Rattle.reader.specs.Cases.{naming_of}
 use Rattle.reader.proofs.Namings.{named}
 use Rattle.consistency.proofs.Panels.{agree_unnamed, agree_step_same, agree_step_differs}
-use borrow.Author.Rules.{rules}
 use Rattle.consistency.proofs.panel.agree_step.Goals.{In-Place}
 use Rattle.consistency.proofs.panel.agree_step.Goals as goal
 

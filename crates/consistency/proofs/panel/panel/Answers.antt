@@ -6,7 +6,6 @@ use Rattle.reader.specs.Slices.{slice, subslice}
 use Rattle.consistency.specs.Panel.{panel}
 use Rattle.reader.proofs.Namings.{named_slice, no_slice}
 use Rattle.consistency.proofs.Panels.{panel_inside}
-use borrow.Author.Rules.{rules}
 use Rattle.consistency.proofs.panel.panel.Goals as goal
 
 pub overflow_add-result : goal.overflow_add-result

@@ -3,7 +3,6 @@ use mathlib.Core.Path.{sym, ap, ◌∙◌}
 use Rattle.reader.specs.Cases.{naming_of}
 use Rattle.reader.proofs.Namings.{named}
 use Rattle.consistency.proofs.Panels.{panel_named, panel_unnamed}
-use borrow.Author.Rules.{rules}
 use Rattle.consistency.proofs.panel.panel_place.Goals as goal
 
 pub shown_length-requires : goal.shown_length-requires

@@ -4,7 +4,6 @@ use native.Mathlib.Omega.{arith}
 use mathlib.Core.Path.{◌≡◌, ap, ◌∙◌}
 use lib.ListN.{length, take, drop}
 use Rattle.image.specs.Zero.{before_zero}
-use borrow.Author.Rules.{rules}
 use Rattle.consistency.proofs.panel.shown_length.Goals as goal
 
 pub returns : goal.returns

@@ -1,5 +1,5 @@
 -- `reader::id_walk::next` meets its contract. Assumes nothing.
-use Rattle.std.proofs.Common.{sym, ap, ◌∙◌, arith, rules}
+use Rattle.std.proofs.Common.{sym, ap, ◌∙◌, arith}
 use Rattle.reader.specs.IdWalk.{step, step_of}
 use Rattle.reader.specs.Cases.{naming_of}
 use Rattle.jhash.proofs.WordRead.{word_below}

@@ -1,5 +1,5 @@
 -- `reader::id_walk::size_hint` meets its contract. Assumes nothing.
-use Rattle.std.proofs.Common.{◌-◌, sym, refl, ◌∙◌, arith, rules}
+use Rattle.std.proofs.Common.{◌-◌, sym, refl, ◌∙◌, arith}
 use Rattle.reader.proofs.Namings.{back, hint_none, hint_back}
 use Rattle.reader.proofs.id_walk.size_hint.Goals as goal
 

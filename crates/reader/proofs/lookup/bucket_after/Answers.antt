@@ -1,5 +1,5 @@
 -- `reader::lookup::bucket_after` meets its contract. Assumes nothing.
-use Rattle.std.proofs.Common.{◌+◌, ◌/◌, refl, mod-lt, arith, rules}
+use Rattle.std.proofs.Common.{◌+◌, ◌/◌, refl, mod-lt, arith}
 use Rattle.reader.proofs.lookup.bucket_after.Goals as goal
 
 pub overflow_add-result : goal.overflow_add-result

@@ -1,5 +1,5 @@
 -- `reader::lookup::early_miss` meets its contract: by the law `early_miss`. Assumes nothing.
-use Rattle.std.proofs.Common.{◌∙◌, arith, rules}
+use Rattle.std.proofs.Common.{◌∙◌, arith}
 use Rattle.reader.proofs.EarlyMiss.{early_miss}
 use Rattle.reader.proofs.lookup.early_miss.Goals as goal
 

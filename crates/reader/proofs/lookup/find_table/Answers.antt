@@ -1,5 +1,5 @@
 -- `reader::lookup::find_table` meets its contract. Assumes nothing.
-use Rattle.std.proofs.Common.{arith, rules}
+use Rattle.std.proofs.Common.{arith}
 use Rattle.reader.proofs.Searches.{Row, unread_offset, unread_number, unread_past_end, read_table}
 use Rattle.reader.proofs.lookup.find_table.Goals.{After-word-n}
 use Rattle.reader.proofs.lookup.find_table.Goals as goal

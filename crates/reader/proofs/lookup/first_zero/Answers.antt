@@ -1,5 +1,5 @@
 -- `reader::lookup::first_zero` meets its contract. Assumes nothing.
-use Rattle.std.proofs.Common.{◌<◌, arith, rules}
+use Rattle.std.proofs.Common.{◌<◌, arith}
 use Rattle.reader.proofs.lookup.first_zero.Goals as goal
 
 pub returns-else-y-eq0 : goal.returns-else-y-eq0

@@ -1,5 +1,5 @@
 -- `reader::lookup::probe_bucket` meets its contract. Assumes nothing.
-use Rattle.std.proofs.Common.{true, false, sym, refl, ◌∙◌, rules, eq-eqb, ne_eqb}
+use Rattle.std.proofs.Common.{true, false, sym, refl, ◌∙◌, eq-eqb, ne_eqb}
 use Rattle.image.specs.Bytes.{word}
 use Rattle.reader.proofs.Searches.{probe_bucket_by}
 use Rattle.reader.proofs.lookup.probe_bucket.Goals as goal

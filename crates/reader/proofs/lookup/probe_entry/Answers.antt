@@ -1,5 +1,5 @@
 -- `reader::lookup::probe_entry` meets its contract. Assumes nothing.
-use Rattle.std.proofs.Common.{ℕ, true, false, List, sym, refl, ap, ◌∙◌, arith, rules}
+use Rattle.std.proofs.Common.{ℕ, true, false, List, sym, refl, ap, ◌∙◌, arith}
 use Rattle.image.specs.Bytes.{same}
 use Rattle.reader.specs.Lookup.{hit}
 use Rattle.image.proofs.Unbroken.{unbroken}

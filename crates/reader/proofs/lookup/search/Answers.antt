@@ -1,5 +1,5 @@
 -- `reader::lookup::search` meets its contract. Assumes nothing.
-use Rattle.std.proofs.Common.{ℕ, sym, ap, ◌∙◌, arith, rules}
+use Rattle.std.proofs.Common.{ℕ, sym, ap, ◌∙◌, arith}
 use Rattle.reader.specs.Lookup.{Lookup}
 use Rattle.reader.specs.Steps.Resume.{search_rest}
 use Rattle.reader.proofs.Searches.{rest_start}

@@ -1,5 +1,5 @@
 -- `reader::lookup::search_from` meets its contract. Assumes nothing.
-use Rattle.std.proofs.Common.{ℕ, ◌-◌, ◌<◌, true, false, length, refl, ap, ◌∙◌, arith, rules, le-ltb, lt-ltb, le-leb}
+use Rattle.std.proofs.Common.{ℕ, ◌-◌, ◌<◌, true, false, length, refl, ap, ◌∙◌, arith, le-ltb, lt-ltb, le-leb}
 use borrow.Author.Tests.{lt-leb}
 use Rattle.reader.specs.Lookup.{Lookup}
 use Rattle.reader.specs.Steps.Resume.{search_rest}

@@ -1,15 +1,15 @@
 -- `reader::lookup::search_rest` meets its contract. The loop's invariant: what is left of the search, from here on, answers what was left at the start.
 -- Assumes nothing.
-use Rattle.std.proofs.Common.{◌≡◌, ℕ, ◌-◌, sym, refl, ap, ◌∙◌, arith, rules}
+use Rattle.std.proofs.Common.{◌≡◌, ℕ, ◌-◌, sym, refl, ap, ◌∙◌, arith}
 use Rattle.image.specs.Tables.{next}
 use Rattle.reader.specs.Lookup.{Lookup, nothing, Probe, pass, ends, hit, decide}
 use Rattle.reader.specs.Cases.{probe_of}
 use Rattle.reader.specs.Steps.Resume.{search_rest}
-use Rattle.reader.proofs.Searches.{RestInv, rest_over, rest_step}
+use Rattle.reader.proofs.Searches.{rest_over, rest_step}
 use Rattle.reader.proofs.lookup.search_rest.Goals.{After-probe_bucket}
 use Rattle.reader.proofs.lookup.search_rest.Goals as goal
 
-left_of : (c : After-probe_bucket) → ℕ → Lookup
+abbrev left_of : (c : After-probe_bucket) → ℕ → Lookup
 left_of c j =
     let a = c.args in
     search_rest a.image.now a.name.now a.h a.at a.n j (c.loop-left.left - 1)

@@ -1,11 +1,6 @@
 -- `reader::lookup::search_rest` meets its contract. The loop's invariant: what is left of the search, from here on, answers what was left at the start.
 -- Assumes nothing.
-use Rattle.std.proofs.Common.{◌≡◌, ℕ, ◌-◌, sym, refl, ap, ◌∙◌, arith, rules}
-use Rattle.image.specs.Tables.{next}
-use Rattle.reader.specs.Lookup.{Lookup, nothing, Probe, pass, ends, hit, decide}
-use Rattle.reader.specs.Cases.{probe_of}
-use Rattle.reader.specs.Steps.Resume.{search_rest}
-use Rattle.reader.proofs.Searches.{RestInv, rest_over, rest_step}
+use Rattle.reader.proofs.Searches.{RestInv}
 use Rattle.reader.proofs.lookup.search_rest.Given as goal
 
 abbrev pub invariant-loop-left : goal.invariant-loop-left

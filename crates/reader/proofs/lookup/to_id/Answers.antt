@@ -1,5 +1,5 @@
 -- `reader::lookup::to_id` meets its contract. Image and name as parts are the whole of each. Assumes nothing.
-use Rattle.std.proofs.Common.{◌≡◌, ℕ, ◌-◌, true, false, List, length, take, refl, ap, ◌∙◌, arith, take_all, rules, le-ltb, lt-ltb, le-leb}
+use Rattle.std.proofs.Common.{◌≡◌, ℕ, ◌-◌, true, false, List, length, take, refl, ap, ◌∙◌, arith, take_all, le-ltb, lt-ltb, le-leb}
 use borrow.Author.Tests.{lt-leb}
 use Rattle.jhash.specs.NameHash.{outcome, hash_outcome}
 use Rattle.jhash.specs.declared.Hashed.{Hashed}

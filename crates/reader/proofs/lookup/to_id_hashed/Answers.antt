@@ -1,5 +1,5 @@
 -- `reader::lookup::to_id_hashed` meets its contract. Assumes nothing.
-use Rattle.std.proofs.Common.{◌<◌, ◌∙◌, arith, rules}
+use Rattle.std.proofs.Common.{◌<◌, ◌∙◌, arith}
 use Rattle.reader.proofs.Searches.{lookup_unread, lookup_read}
 use Rattle.reader.proofs.lookup.to_id_hashed.Goals as goal
 

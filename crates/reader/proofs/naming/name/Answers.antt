@@ -1,5 +1,4 @@
 -- `reader::naming::name` meets its contract. Assumes nothing.
-use Rattle.std.proofs.Common.{rules}
 use Rattle.reader.proofs.naming.name.Goals as goal
 
 pub returns : goal.returns

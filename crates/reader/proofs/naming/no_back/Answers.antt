@@ -1,5 +1,5 @@
 -- `reader::naming::no_back` meets its contract. Assumes nothing.
-use Rattle.std.proofs.Common.{length, sym, ◌∙◌, rules, le-ltb, lt-ltb, eq-eqb, ne_eqb}
+use Rattle.std.proofs.Common.{length, sym, ◌∙◌, le-ltb, lt-ltb, eq-eqb, ne_eqb}
 use Rattle.image.specs.Bytes.{word}
 use Rattle.reader.proofs.naming.no_back.Goals as goal
 

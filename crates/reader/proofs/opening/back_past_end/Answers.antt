@@ -1,5 +1,5 @@
 -- `reader::opening::back_past_end` meets its contract. Assumes nothing.
-use Rattle.std.proofs.Common.{◌+◌, ◌*◌, ltb, length, rules}
+use Rattle.std.proofs.Common.{◌+◌, ◌*◌, ltb, length}
 use Rattle.reader.proofs.opening.back_past_end.Goals as goal
 
 pub returns : goal.returns

@@ -1,5 +1,5 @@
 -- `reader::opening::some_past_end` meets its contract. Assumes nothing.
-use Rattle.std.proofs.Common.{sym, arith, rules}
+use Rattle.std.proofs.Common.{sym, arith}
 use Rattle.reader.proofs.opening.some_past_end.Goals as goal
 
 pub returns : goal.returns

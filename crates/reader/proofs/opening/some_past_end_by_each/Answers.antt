@@ -1,9 +1,9 @@
 -- `reader::opening::some_past_end_by_each` meets its contract. The loop's invariant: a table that reaches past the end was found or is still to
 -- come exactly where there is one. Assumes nothing.
-use Rattle.std.proofs.Common.{◌≡◌, ℕ, ◌-◌, ◌≤◌, Bool, ◌||◌, sym, refl, ap, ◌∙◌, arith, rules}
+use Rattle.std.proofs.Common.{◌≡◌, ℕ, ◌-◌, Bool, ◌||◌, sym, refl, ap, ◌∙◌, arith, rules}
 use mathlib.Core.Bool.{or-false}
 use Rattle.reader.specs.Open.{some_past_end}
-use Rattle.reader.proofs.Opens.{PastEndInv, past_end_join, past_end_none}
+use Rattle.reader.proofs.Opens.{past_end_join, past_end_none}
 use Rattle.reader.proofs.opening.some_past_end_by_each.Goals as goal
 
 pub loop-t-init : goal.loop-t-init

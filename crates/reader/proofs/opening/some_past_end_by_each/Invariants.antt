@@ -1,9 +1,7 @@
 -- `reader::opening::some_past_end_by_each` meets its contract. The loop's invariant: a table that reaches past the end was found or is still to
 -- come exactly where there is one. Assumes nothing.
-use Rattle.std.proofs.Common.{◌≡◌, ℕ, ◌-◌, ◌≤◌, Bool, ◌||◌, sym, refl, ap, ◌∙◌, arith, rules}
-use mathlib.Core.Bool.{or-false}
-use Rattle.reader.specs.Open.{some_past_end}
-use Rattle.reader.proofs.Opens.{PastEndInv, past_end_join, past_end_none}
+use Rattle.std.proofs.Common.{◌-◌}
+use Rattle.reader.proofs.Opens.{PastEndInv}
 use Rattle.reader.proofs.opening.some_past_end_by_each.Given as goal
 
 abbrev pub invariant-loop-t : goal.invariant-loop-t

@@ -1,5 +1,5 @@
 -- `reader::opening::with_slack` meets its contract: a join below 2^63 has both parts below it. Assumes nothing.
-use Rattle.std.proofs.Common.{arith, rules}
+use Rattle.std.proofs.Common.{arith}
 use Rattle.image.proofs.BitOr.{le_or_l, le_or_r}
 use Rattle.reader.proofs.opening.with_slack.Goals as goal
 
