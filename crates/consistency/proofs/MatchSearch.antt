@@ -89,7 +89,8 @@ matches_by image name id s l es el = sym (λ i. any_match id (cond (es i) (ended
 -- ---- by the name of an id
 
 -- the home check, by the part of the image that is searched for
-pub home_by_lem : (image : List ℕ) (id s n : ℕ) → place s n ≡ naming image id → any_match id (matches_of image (take (s + n - s) (drop s image))) ≡ home image id
+pub home_by_lem : (image : List ℕ) (id s n : ℕ) → place s n ≡ naming image id → any_match id (matches_of image (take (s + n - s) (drop s image)))
+    ≡ home image id
 unfolding home
 home_by_lem image id s n e =
     let k : s + n - s ≡ n = omega arith in

@@ -1,5 +1,6 @@
 -- Bytes that stand at an offset of an image, and the words that are read there. Assumes nothing.
-use Rattle.std.proofs.Common.{◌≡◌, ℕ, zero, suc, ◌+◌, ◌*◌, ◌^◌, ◌<◌, ◌≤◌, List, [], ◌∷◌, ◌++◌, length, get_or, take, drop, sym, ap, ◌∙◌, append_assoc, append-nil, add-zero, arith, length-append, length-drop, drop-drop}
+use Rattle.std.proofs.Common.{◌≡◌, ℕ, zero, suc, ◌+◌, ◌*◌, ◌^◌, ◌<◌, ◌≤◌, List, [], ◌∷◌, ◌++◌, length, get_or, take, drop, sym, ap, ◌∙◌, append_assoc}
+use Rattle.std.proofs.Common.{append-nil, add-zero, arith, length-append, length-drop, drop-drop}
 use lib.Seq.{take-append_seam, drop-append_seam}
 use Rattle.image.specs.Bytes.{word, le32, cat}
 use Rattle.image.proofs.Words.{word_drop, word_le32, length_le32}

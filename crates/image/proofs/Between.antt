@@ -1,5 +1,6 @@
 -- The bytes between two places of a buffer, and the entry at their front. Assumes nothing.
-use Rattle.std.proofs.Common.{◌≡◌, ℕ, zero, suc, ◌+◌, ◌-◌, ◌<◌, ◌≤◌, Bool, true, false, cond, List, [], ◌∷◌, length, get_or, take, drop, set, sym, refl, ap, ◌∙◌, arith, length-drop, length-take, get_or-drop, get_or-take, drop-drop, eq-eqb, ne_eqb, le-leb}
+use Rattle.std.proofs.Common.{◌≡◌, ℕ, zero, suc, ◌+◌, ◌-◌, ◌<◌, ◌≤◌, Bool, true, false, cond, List, [], ◌∷◌, length, get_or, take, drop, set, sym, refl, ap}
+use Rattle.std.proofs.Common.{◌∙◌, arith, length-drop, length-take, get_or-drop, get_or-take, drop-drop, eq-eqb, ne_eqb, le-leb}
 use lib.Seq.{sets, take-set-le}
 use borrow.Author.Tests.{lt-leb}
 use Rattle.image.specs.Bytes.{word}

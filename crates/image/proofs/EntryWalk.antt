@@ -1,5 +1,6 @@
 -- One entry of a walk over entries. Assumes nothing.
-use Rattle.std.proofs.Common.{◌≡◌, ℕ, suc, ◌+◌, ◌-◌, ◌<◌, ◌≤◌, max, Bool, false, ◌&&◌, ◌||◌, eqb, List, ◌∷◌, length, get_or, take, drop, set, sym, refl, ap, ◌∙◌, arith, get_or-set_other, get_or-set_same, eq-eqb, ne_eqb}
+use Rattle.std.proofs.Common.{◌≡◌, ℕ, suc, ◌+◌, ◌-◌, ◌<◌, ◌≤◌, max, Bool, false, ◌&&◌, ◌||◌, eqb, List, ◌∷◌, length, get_or, take, drop, set, sym, refl, ap}
+use Rattle.std.proofs.Common.{◌∙◌, arith, get_or-set_other, get_or-set_same, eq-eqb, ne_eqb}
 use native.Mathlib.Decide.{dec_lt, ℕ_discrete}
 use mathlib.Core.Bool.{or_assoc, or-false}
 use lib.Seq.{set_out}

@@ -1,5 +1,6 @@
 -- Laws of the list functions of specs/Bytes: parts one after the other, the elements that pass a test, runs of numbers. Assumes nothing.
-use Rattle.std.proofs.Common.{◌≡◌, ℕ, zero, suc, ◌+◌, ◌-◌, ◌*◌, ◌<◌, Bool, true, false, cond, List, [], ◌∷◌, ◌++◌, length, get_or, sym, refl, ap, ◌∙◌, append_assoc, append-nil, suc-add, arith, length-append}
+use Rattle.std.proofs.Common.{◌≡◌, ℕ, zero, suc, ◌+◌, ◌-◌, ◌*◌, ◌<◌, Bool, true, false, cond, List, [], ◌∷◌, ◌++◌, length, get_or, sym, refl, ap, ◌∙◌}
+use Rattle.std.proofs.Common.{append_assoc, append-nil, suc-add, arith, length-append}
 use Rattle.image.specs.Bytes.{cat, filter, range}
 
 module _ {A : Type 0} (f : A → List ℕ) where
@@ -61,7 +62,8 @@ module _ {A : Type 0} (test : A → Bool) where
   filter-append [] ys = refl
   filter-append (x ∷ xs) ys = filter_with_first (filter-append xs ys) (test x)
     where
-      filter_with_first : filter test (xs ++ ys) ≡ filter test xs ++ filter test ys → (b : Bool) → cond b (x ∷ filter test (xs ++ ys)) (filter test (xs ++ ys))
+      filter_with_first : filter test (xs ++ ys) ≡ filter test xs ++ filter test ys → (b : Bool)
+          → cond b (x ∷ filter test (xs ++ ys)) (filter test (xs ++ ys))
           ≡ cond b (x ∷ filter test xs) (filter test xs) ++ filter test ys
       filter_with_first ih true = ap (λ (l : List A). x ∷ l) ih
       filter_with_first ih false = ih

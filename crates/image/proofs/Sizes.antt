@@ -1,5 +1,6 @@
 -- The sizes of an image's parts, and where each begins. Assumes nothing.
-use Rattle.std.proofs.Common.{◌≡◌, ℕ, zero, suc, ◌+◌, ◌*◌, ◌<◌, Bool, true, false, cond, eqb, ltb, List, [], ◌∷◌, ◌++◌, map, length, replicate, refl, ap, ◌∙◌, mod-lt, arith, lit<, length-append, length-set, ltb-false, ltb-true, le-ltb, lt-ltb, eqb-true}
+use Rattle.std.proofs.Common.{◌≡◌, ℕ, zero, suc, ◌+◌, ◌*◌, ◌<◌, Bool, true, false, cond, eqb, ltb, List, [], ◌∷◌, ◌++◌, map, length, replicate, refl, ap, ◌∙◌}
+use Rattle.std.proofs.Common.{mod-lt, arith, lit<, length-append, length-set, ltb-false, ltb-true, le-ltb, lt-ltb, eqb-true}
 use lib.ListN.{length-replicate}
 use borrow.Author.Tests.{eqb-false}
 use Rattle.jhash.specs.NameHash.{hash_of}
@@ -93,7 +94,8 @@ pub count_cons : (t : ℕ) (p : Placed) (ps : List Placed) → count t (p ∷ ps
 unfolding of_table filter
 count_cons t p ps = length_with_first (in_table_lem t p)
   where
-    length_with_first : (b : Bool) → length (cond b (p ∷ filter (in_table_lem t) ps) (filter (in_table_lem t) ps)) ≡ cond b 1 0 + length (filter (in_table_lem t) ps)
+    length_with_first : (b : Bool) → length (cond b (p ∷ filter (in_table_lem t) ps) (filter (in_table_lem t) ps)) ≡ cond b 1 0
+        + length (filter (in_table_lem t) ps)
     length_with_first true = omega arith
     length_with_first false = omega arith
 

@@ -1,5 +1,6 @@
 -- Runs of stores: one after the other, and within one part of a list. Assumes nothing.
-use Rattle.std.proofs.Common.{◌≡◌, ℕ, zero, suc, ◌+◌, ◌-◌, ◌*◌, ◌<◌, ◌≤◌, List, [], ◌∷◌, ◌++◌, length, get_or, drop, set, sym, refl, ap, ◌∙◌, add-zero, add-suc, suc-add, arith, length-set, drop-cons}
+use Rattle.std.proofs.Common.{◌≡◌, ℕ, zero, suc, ◌+◌, ◌-◌, ◌*◌, ◌<◌, ◌≤◌, List, [], ◌∷◌, ◌++◌, length, get_or, drop, set, sym, refl, ap, ◌∙◌, add-zero}
+use Rattle.std.proofs.Common.{add-suc, suc-add, arith, length-set, drop-cons}
 use lib.Seq.{sets, set-append_left}
 use Rattle.image.specs.Bytes.{cat, range}
 use Rattle.image.proofs.Lists.{cat_append, cat_run, range_at}

@@ -1,5 +1,6 @@
 -- An entry that is not broken lies in the image with its first 8 bytes and its name. Assumes nothing.
-use Rattle.std.proofs.Common.{◌≡◌, ℕ, ◌+◌, ◌-◌, ◌<◌, ◌≤◌, true, false, ◌||◌, eqb, ltb, List, length, sym, ◌∙◌, arith, ltb-false, le-ltb, lt-ltb, eq-eqb, ne_eqb}
+use Rattle.std.proofs.Common.{◌≡◌, ℕ, ◌+◌, ◌-◌, ◌<◌, ◌≤◌, true, false, ◌||◌, eqb, ltb, List, length, sym, ◌∙◌, arith, ltb-false, le-ltb, lt-ltb, eq-eqb}
+use Rattle.std.proofs.Common.{ne_eqb}
 use native.Mathlib.Decide.{dec_lt, ℕ_discrete}
 use borrow.Author.Tests.{eqb-false}
 use Rattle.image.specs.Bytes.{word}

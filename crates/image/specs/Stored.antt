@@ -1,6 +1,7 @@
 -- The entries in some bytes: 01, "Looking up a name" (an entry at an offset of an image, broken or not) and "When a
 -- call is refused" (whole entries one after the other, as close finds them).
-use Rattle.std.specs.Prelude.{ℕ, zero, suc, ◌+◌, ◌-◌, Bool, ◌&&◌, ◌||◌, List, [], ◌∷◌, length, take, drop, ◌==◌, nat_le, nat_lt, slice_index, slice_range}
+use Rattle.std.specs.Prelude.{ℕ, zero, suc, ◌+◌, ◌-◌, Bool, ◌&&◌, ◌||◌, List, [], ◌∷◌, length, take, drop, ◌==◌}
+use Rattle.std.specs.Prelude.{nat_le, nat_lt, slice_index, slice_range}
 use Rattle.image.specs.Bytes.{word}
 use Rattle.image.specs.Image.{Entry}
 

@@ -1,5 +1,6 @@
 -- The hash tables: 01, "The image record" and "Name hash".
-use Rattle.std.specs.Prelude.{◌≡◌, ℕ, zero, suc, ◌+◌, ◌/◌, ◌%◌, ◌<◌, cond, List, [], ◌∷◌, get_or, replicate, ◌==◌, slice_index_or, slice_set}
+use Rattle.std.specs.Prelude.{◌≡◌, ℕ, zero, suc, ◌+◌, ◌/◌, ◌%◌, ◌<◌, cond, List, [], ◌∷◌, get_or, replicate, ◌==◌}
+use Rattle.std.specs.Prelude.{slice_index_or, slice_set}
 
 -- 01, "Name hash": table t is the hash modulo 256
 abbrev pub table_of : ℕ → ℕ

@@ -1,6 +1,7 @@
 -- The walk over blocks of 12 bytes: one turn, the end and the start of it. The zero byte after a name counts through
 -- the length alone, since past the end of a list stand zeros anyway. Assumes nothing.
-use Rattle.std.proofs.Common.{◌≡◌, ℕ, zero, suc, ◌+◌, ◌<◌, ◌≤◌, Bool, true, false, List, [], ◌∷◌, ◌++◌, length, get_or, drop, sym, refl, ap, ◌∙◌, arith, length-append, length-drop, le-ltb, lt-ltb}
+use Rattle.std.proofs.Common.{◌≡◌, ℕ, zero, suc, ◌+◌, ◌<◌, ◌≤◌, Bool, true, false, List, [], ◌∷◌, ◌++◌, length, get_or, drop, sym, refl, ap, ◌∙◌, arith}
+use Rattle.std.proofs.Common.{length-append, length-drop, le-ltb, lt-ltb}
 use native.Mathlib.Decide.{dec_lt}
 use lib.Seq.{drop-append-le}
 use Rattle.jhash.specs.Word.{word}

@@ -15,11 +15,13 @@ pub six_rounds : (w : Words) {w₁ w₂ w₃ w₄ w₅ w₆ : Words} → w₁ �
 six_rounds w e₁ e₂ e₃ e₄ e₅ e₆ = cc (six w)
 
 -- seven steps in a row are its final
-seven : (w w₆ : Words) → w₆ ≡ final_step (final_step (final_step (final_step (final_step (final_step w 14) 11) 25) 16) 4) 14 → final_word w₆.c w₆.b 24 ≡ final w
+seven : (w w₆ : Words) → w₆ ≡ final_step (final_step (final_step (final_step (final_step (final_step w 14) 11) 25) 16) 4) 14
+    → final_word w₆.c w₆.b 24 ≡ final w
 unfolding final_step final
 seven w w₆ e = rw e
 
-pub seven_steps : (w : Words) {w₁ w₂ w₃ w₄ w₅ w₆ : Words} {c : ℕ} → w₁ ≡ final_step w 14 → w₂ ≡ final_step w₁ 11 → w₃ ≡ final_step w₂ 25 → w₄ ≡ final_step w₃ 16
+pub seven_steps : (w : Words) {w₁ w₂ w₃ w₄ w₅ w₆ : Words} {c : ℕ} → w₁ ≡ final_step w 14 → w₂ ≡ final_step w₁ 11 → w₃ ≡ final_step w₂ 25 → w₄
+    ≡ final_step w₃ 16
     → w₅ ≡ final_step w₄ 4 → w₆ ≡ final_step w₅ 14 → c ≡ final_word w₆.c w₆.b 24 → c ≡ final w
 seven_steps w {w₆ = w₆} e₁ e₂ e₃ e₄ e₅ e₆ e = e ∙ seven w w₆ (cc)
 

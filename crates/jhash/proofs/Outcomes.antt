@@ -1,6 +1,7 @@
 -- What hashing a name answers: the laws that the crates above cite, so that none of them opens a definition of the hash.
 -- Assumes nothing.
-use Rattle.std.proofs.Common.{◌≡◌, ℕ, zero, suc, ◌+◌, ◌^◌, ◌<◌, ◌≤◌, Bool, true, false, cond, ltb, List, [], ◌∷◌, ◌++◌, length, drop, sym, ap, ◌∙◌, arith, le-ltb, lt-ltb}
+use Rattle.std.proofs.Common.{◌≡◌, ℕ, zero, suc, ◌+◌, ◌^◌, ◌<◌, ◌≤◌, Bool, true, false, cond, ltb, List, [], ◌∷◌, ◌++◌, length, drop, sym, ap, ◌∙◌, arith}
+use Rattle.std.proofs.Common.{le-ltb, lt-ltb}
 use native.Mathlib.Decide.{dec_lt}
 use Rattle.jhash.specs.Lookup3.{added, mix, final, hash_blocks, hash_rest, initial}
 use Rattle.jhash.specs.Outcome.{value, refusal}

@@ -1,6 +1,7 @@
 -- The table of powers of two: one test that the checker computes over all its entries, and the law that turns it into the
 -- rule of each. Assumes nothing.
-use Rattle.std.proofs.Common.{◌≡◌, ℕ, zero, suc, ◌+◌, ◌%◌, ◌^◌, ◌<◌, List, [], ◌∷◌, get_or, sym, ap, ◌∙◌, le_of_suc-le-suc, not-suc-le-zero, add-zero, add-suc, suc-add, zero-add, arith}
+use Rattle.std.proofs.Common.{◌≡◌, ℕ, zero, suc, ◌+◌, ◌%◌, ◌^◌, ◌<◌, List, [], ◌∷◌, get_or, sym, ap, ◌∙◌, le_of_suc-le-suc, not-suc-le-zero, add-zero}
+use Rattle.std.proofs.Common.{add-suc, suc-add, zero-add, arith}
 
 -- n powers of two in a row, the first of them 2 ^ i
 abbrev pub powers_from : ℕ → ℕ → List ℕ

@@ -1,5 +1,6 @@
 -- A rotation is a product by a power of two, split at 2 ^ 32, its two halves added (`specs/Theorems/Rotation`). Assumes nothing.
-use Rattle.std.proofs.Common.{◌≡◌, ℕ, ◌+◌, ◌-◌, ◌*◌, ◌/◌, ◌%◌, ◌^◌, ◌<◌, sym, ap, ◌∙◌, subst, ap₂, lt_trans, lt_of_le_of_lt, add-zero, le_of_lt, mod-lt, mod-eq_of_lt, add_comm, sub-add_cancel, arith, pow_pos, pow-add, shl_lt, shr_lt}
+use Rattle.std.proofs.Common.{◌≡◌, ℕ, ◌+◌, ◌-◌, ◌*◌, ◌/◌, ◌%◌, ◌^◌, ◌<◌, sym, ap, ◌∙◌, subst, ap₂, lt_trans, lt_of_le_of_lt, add-zero, le_of_lt, mod-lt}
+use Rattle.std.proofs.Common.{mod-eq_of_lt, add_comm, sub-add_cancel, arith, pow_pos, pow-add, shl_lt, shr_lt}
 use native.Mathlib.Nat.{mul-mod_left, mul-div-mul_right}
 use lib.Bits.{bit_or, or_shifted, or_lt}
 use lib.Pow.{pow-lt, mod-pow-add, shl-shr, shr_le}

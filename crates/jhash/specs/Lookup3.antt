@@ -1,6 +1,7 @@
 -- Bob Jenkins's `hashlittle` of lookup3.c, over a list of bytes of any length and a start value (01, "Name hash").
 -- Words are numbers below 2 ^ 32. Assumes nothing.
-use Rattle.std.specs.Prelude.{ℕ, zero, suc, ◌+◌, ◌-◌, ◌*◌, ◌/◌, ◌%◌, ◌^◌, true, false, List, [], ◌∷◌, length, drop, bit_or, bit_xor, nat_lt}
+use Rattle.std.specs.Prelude.{ℕ, zero, suc, ◌+◌, ◌-◌, ◌*◌, ◌/◌, ◌%◌, ◌^◌, true, false, List, [], ◌∷◌, length, drop}
+use Rattle.std.specs.Prelude.{bit_or, bit_xor, nat_lt}
 use Rattle.jhash.specs.Word.{word}
 use Rattle.jhash.specs.declared.Words.{Words}
 

@@ -23,7 +23,8 @@ outcome Refused = refusal refused.name_too_long
 
 -- The rule: refusal 9 when the name has 4,294,967,295 bytes or more, otherwise its hash.
 unfoldable pub hash_outcome : List ℕ → ℕ → Outcome ℕ
-hash_outcome name start = cond (nat_lt (length name) 4294967295) (value (name_hash name start)) (refusal refused.name_too_long)
+hash_outcome name start = cond (nat_lt (length name) 4294967295) (value (name_hash name start))
+    (refusal refused.name_too_long)
 
 -- The hash of a name, 0 where it is too long to have one. Names with different values differ.
 unfoldable pub hash_or_zero : List ℕ → ℕ

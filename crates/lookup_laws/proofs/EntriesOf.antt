@@ -87,7 +87,8 @@ first_at name o [] = refl
 first_at name o (e ∷ es) = offset_with_first (has_name name e) (hits_of_name name (o + entry_size e) es) (first_at name (o + entry_size e) es)
   where
     offset_with_first : (s : Bool) (T : List Hit) → Option.map offset_in (first_of T) ≡ first_at_lem name (o + entry_size e) es
-        → Option.map offset_in (first_of (cond s (hit_of_entry (record { entry = e; at = o }) ∷ T) T)) ≡ cond s (some o) (first_at_lem name (o + entry_size e) es)
+        → Option.map offset_in (first_of (cond s (hit_of_entry (record { entry = e; at = o }) ∷ T) T))
+        ≡ cond s (some o) (first_at_lem name (o + entry_size e) es)
     offset_with_first true T ih = refl
     offset_with_first false T ih = ih
 

@@ -13,7 +13,8 @@ use Rattle.jhash.specs.NameHash.{hash_of}
 use Rattle.jhash.proofs.Outcomes.{hash_of_below}
 use Rattle.image.specs.Bytes.{le32, same}
 use Rattle.image.specs.Tables.{Bucket, empty, table_of, start, probe_sequence, filled}
-use Rattle.image.specs.Image.{Entry, Placed, head_size, of_table, in_table_lem, count, bucket_of, bucket_bytes, table, entries_before, table_offset, back_size}
+use Rattle.image.specs.Image.{Entry, Placed, head_size, of_table, in_table_lem, count, bucket_of, bucket_bytes, table, entries_before, table_offset}
+use Rattle.image.specs.Image.{back_size}
 use Rattle.image.specs.Image.{entries_end, image_size, image}
 use Rattle.image.specs.declared.Mode.{Mode}
 use Rattle.image.proofs.Sizes.{length_image}
@@ -129,7 +130,8 @@ module _ (mode : Mode) (es : List Entry) (fits : image_size mode es ≤ 42949672
   n = 2 * count (table_of (hash_of name)) (placed_in es)
 
   seen_bucket : (k : ℕ) → k < n
-      → probe_bucket (image mode es) name (hash_of name) (at + 8 * k) ≡ probe_with (hash_of name) v (get_or (table (table_of (hash_of name)) (placed_in es)) k empty)
+      → probe_bucket (image mode es) name (hash_of name) (at + 8 * k)
+      ≡ probe_with (hash_of name) v (get_or (table (table_of (hash_of name)) (placed_in es)) k empty)
   unfolding probe_bucket bucket_bytes n at v
   seen_bucket k i =
       let b = get_or (table (table_of (hash_of name)) (placed_in es)) k empty in

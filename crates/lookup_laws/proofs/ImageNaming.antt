@@ -98,7 +98,8 @@ module _ (es : List Entry) (fits : image_size Twoway es ≤ 4294967295) (id : �
   unfolding back_word held
   back_word_named =
       held_last (image Twoway es) img_small 0 (placed_of_id id (placed_in es)) of_id_lem
-      ∙ ap (λ (d : Option (List ℕ)). last_name_from d (map (λ (p : Placed). p.entry) (placed_of_id id (placed_in es)))) (held_none (image Twoway es) img_small)
+      ∙ ap (λ (d : Option (List ℕ)). last_name_from d (map (λ (p : Placed). p.entry) (placed_of_id id (placed_in es))))
+      (held_none (image Twoway es) img_small)
       ∙ ap (last_name_from none) (placed_of_id_lem id head_size es)
       ∙ last_of_all (of_id id es)
 

@@ -10,7 +10,8 @@ use lib.Dec.{eqb, ltb}
 use lib.ListN.{length, length-append}
 use Rattle.jhash.specs.Outcome.{value}
 use Rattle.image.specs.Bytes.{word, le32}
-use Rattle.image.specs.Image.{Entry, head_size, count, entries_before, table_offset, flag_word, back_size_of, entries_end, image_size, back_offset, head_words, image}
+use Rattle.image.specs.Image.{Entry, head_size, count, entries_before, table_offset, flag_word, back_size_of, entries_end, image_size, back_offset}
+use Rattle.image.specs.Image.{head_words, image}
 use Rattle.image.specs.declared.Mode.{Mode}
 use Rattle.image.proofs.Words.{length_le32}
 use Rattle.image.proofs.Sizes.{length_placed, before_suc, before_all, length_image}
@@ -83,7 +84,8 @@ module _ (mode : Mode) (es : List Entry) where
 
     pub back_offset_at_image : back_offset_at (image mode es) ≡ back_offset mode es
     unfolding to_20 back_offset
-    back_offset_at_image = at_word (back_offset mode es) (at_same twenty (at_right to_20 (le32 (back_offset mode es)) six)) (below (eqb (back_size_of mode es) 0))
+    back_offset_at_image = at_word (back_offset mode es) (at_same twenty (at_right to_20 (le32 (back_offset mode es)) six))
+        (below (eqb (back_size_of mode es) 0))
       where
         twenty : 0 + length to_20 ≡ 20
         twenty = simp (length-append, length_le32)
@@ -101,9 +103,11 @@ module _ (mode : Mode) (es : List Entry) where
     unfolding table_offset
     table_inside t h =
         le-ltb (length (image mode es)) (table_at (image mode es) t + 8 * bucket_number (image mode es) t)
-        (rw (table_at_image mode es fits t h, bucket_number_image mode es fits t h, length_image mode es) (some_table_inside (eqb (count t (placed_in es)) 0)))
+        (rw (table_at_image mode es fits t h, bucket_number_image mode es fits t h, length_image mode es)
+        (some_table_inside (eqb (count t (placed_in es)) 0)))
       where
-        some_table_inside : (b : Bool) → cond b 0 (entries_end es + 16 * entries_before t (placed_in es)) + 8 * (2 * count t (placed_in es)) ≤ image_size mode es
+        some_table_inside : (b : Bool) → cond b 0 (entries_end es + 16 * entries_before t (placed_in es)) + 8 * (2 * count t (placed_in es))
+            ≤ image_size mode es
         some_table_inside true = omega (arith, most mode es fits t h)
         some_table_inside false = omega (arith, most mode es fits t h)
 

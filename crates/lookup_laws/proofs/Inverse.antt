@@ -86,6 +86,7 @@ module _ (es : List Entry) (fits : image_size Twoway es ≤ 4294967295) where
   pub inverse : ((name : List ℕ) → length (of_name name es) ≤ 1) → ((id : ℕ) → length (of_id id es) ≤ 1) → (name : List ℕ) (id : ℕ)
       → (found_id (lookup (image Twoway es) name) ≡ some id) ↔ (name_given (image Twoway es) id ≡ some name)
   inverse names ids name id = (
-    λ q. id_gives es fits id ∙ first_last es names ids name id (of_name name es) refl (names name) (sym (name_gives Twoway es fits (ids_fit es fits) name) ∙ q),
+    λ q. id_gives es fits id ∙ first_last es names ids name id (of_name name es) refl (names name)
+        (sym (name_gives Twoway es fits (ids_fit es fits) name) ∙ q),
     λ q. name_gives Twoway es fits (ids_fit es fits) name ∙ last_first es names ids name id (of_id id es) refl (ids id) (sym (id_gives es fits id) ∙ q),
   )

@@ -89,7 +89,8 @@ module _ (f : Bucket → Probe) (sees : EndsAtEmpty f) (n s₀ : ℕ) (inside : 
       good = good_more (apart b full);
     }
       where
-        one_more_used : (s : ℕ) → s < n → (j : ℕ) × (get_or (view n f table s) j pass ≡ ends) × (view n f (insert n table b) s ≡ set (view n f table s) j (f b))
+        one_more_used : (s : ℕ) → s < n → (j : ℕ) × (get_or (view n f table s) j pass ≡ ends)
+            × (view n f (insert n table b) s ≡ set (view n f table s) j (f b))
             → used (view n f (insert n table b) s) ≡ suc m
         one_more_used s h (j, p, q) = rw q (used_set (view n f table s) j (f b) (sees.takes b full) p ∙ ap suc (held.counts s h))
 

@@ -1,5 +1,6 @@
 -- A lookup reads no more buckets than its table has, and each of them lies in the image (`specs/Theorems/Bounds`). Assumes nothing.
-use Rattle.std.proofs.Common.{◌≡◌, ℕ, zero, suc, ◌+◌, ◌*◌, ◌/◌, ◌<◌, ◌≤◌, Bool, true, false, cond, ◌||◌, ltb, leb, List, [], ◌∷◌, length, get_or, refl, zero-le, mod-lt, arith}
+use Rattle.std.proofs.Common.{◌≡◌, ℕ, zero, suc, ◌+◌, ◌*◌, ◌/◌, ◌<◌, ◌≤◌, Bool, true, false, cond, ◌||◌, ltb, leb, List, [], ◌∷◌, length, get_or, refl}
+use Rattle.std.proofs.Common.{zero-le, mod-lt, arith}
 use Rattle.jhash.specs.NameHash.{hash_of}
 use Rattle.image.specs.Tables.{table_of, start, next, probe_sequence}
 use Rattle.image.proofs.Bools.{false_not_true}
@@ -25,7 +26,12 @@ search_along_reads look (k ∷ ks) r = decided (look k) (search_along_reads look
 pub search_reads : (image name : List ℕ) (h o n : ℕ) → reads (search_table image name h o n) ≤ n
 unfolding search_table
 search_reads image name h o n =
-    omega (arith, search_along_reads (λ (k : ℕ). probe_bucket image name h (o + 8 * k)) (probe_sequence n n (start h n)) 0, length-probe_sequence n n (start h n))
+    omega (
+      arith,
+      search_along_reads (λ (k : ℕ). probe_bucket image name h (o + 8 * k)) (probe_sequence n n (start h n)) 0,
+      length-probe_sequence n
+          n (start h n),
+    )
 
 -- at most n, where n is the number of buckets of the name's table; and none where nothing is searched
 pub lookup_reads : (image name : List ℕ) → reads (lookup image name) ≤ bucket_number image (table_of (hash_of name))

@@ -40,7 +40,8 @@ module _ (image name : List ℕ) (h o n : ℕ) where
   empty_ends j m l f e =
       sym (rest_step image name h o n j m ends l f (probe_bucket_by image name (offset j) h (o + 8 * j) true _ refl (eq-eqb (offset j) 0 e) refl))
 
-  other_passes : (j m : ℕ) → 0 < m → m ≤ n → 0 < offset j → (hash j ≡ h → ⊥) → search_rest image name h o n j m ≡ search_rest image name h o n (next n j) (m - 1)
+  other_passes : (j m : ℕ) → 0 < m → m ≤ n → 0 < offset j → (hash j ≡ h → ⊥) → search_rest image name h o n j m
+      ≡ search_rest image name h o n (next n j) (m - 1)
   other_passes j m l f p d =
       sym
       (rest_step image name h o n j m pass l f

@@ -1,5 +1,6 @@
 -- The examples C8, C9, C10 and C12 hold of the rules of reading. Assumes nothing.
-use Rattle.std.proofs.Common.{◌≡◌, ℕ, zero, suc, ◌+◌, ◌*◌, ◌/◌, ◌%◌, ◌^◌, ◌<◌, ◌≤◌, Bool, true, false, ◌&&◌, ◌||◌, ltb, List, [], ◌∷◌, ◌++◌, length, take, drop, sym, refl, ap, ◌∙◌, arith, lit<, lit≤, take_all, drop-drop, le-ltb, lt-ltb, ne_eqb}
+use Rattle.std.proofs.Common.{◌≡◌, ℕ, zero, suc, ◌+◌, ◌*◌, ◌/◌, ◌%◌, ◌^◌, ◌<◌, ◌≤◌, Bool, true, false, ◌&&◌, ◌||◌, ltb, List, [], ◌∷◌, ◌++◌, length, take}
+use Rattle.std.proofs.Common.{drop, sym, refl, ap, ◌∙◌, arith, lit<, lit≤, take_all, drop-drop, le-ltb, lt-ltb, ne_eqb}
 use native.Mathlib.Nat.{mod-one}
 use borrow.Author.Tests.{lt-leb, eqb-false}
 use Rattle.jhash.specs.Outcome.{value, refusal}
@@ -125,7 +126,8 @@ taken_passed = record {
 own_hit : lookup own_image (65 ∷ []) ≡ found (record { id = 5; buckets = 1; offset = 2072 })
 unfolding own_image head_of row_of head_bytes le32 word probe_bucket probe_entry same
 own_hit =
-    one_read own_image (65 ∷ []) 2082 (hit (record { id = 5; offset = 2072 })) (lit≤ tt) (lit< tt) (ap (λ (h : ℕ). table_at own_image (table_of h)) (sym hash_A))
+    one_read own_image (65 ∷ []) 2082 (hit (record { id = 5; offset = 2072 })) (lit≤ tt) (lit< tt)
+    (ap (λ (h : ℕ). table_at own_image (table_of h)) (sym hash_A))
     (lit< tt)
     (ap (λ (h : ℕ). bucket_number own_image (table_of h)) (sym hash_A)) (lit≤ tt) (ap (λ (h : ℕ). probe_bucket own_image (65 ∷ []) h 2082) (sym hash_A))
 

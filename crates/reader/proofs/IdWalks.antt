@@ -1,5 +1,6 @@
 -- What a walk lists, and that it ends for good (`specs/Theorems/Walks`). Assumes nothing.
-use Rattle.std.proofs.Common.{◌≡◌, ℕ, zero, suc, ◌+◌, ◌-◌, ◌<◌, ◌≤◌, false, List, ◌∷◌, ◌++◌, map, replicate, sym, refl, ap, ◌∙◌, ⊎_elim, zero-le, eq-or-lt_of_le, add-one, arith}
+use Rattle.std.proofs.Common.{◌≡◌, ℕ, zero, suc, ◌+◌, ◌-◌, ◌<◌, ◌≤◌, false, List, ◌∷◌, ◌++◌, map, replicate, sym, refl, ap, ◌∙◌, ⊎_elim, zero-le}
+use Rattle.std.proofs.Common.{eq-or-lt_of_le, add-one, arith}
 use native.Mathlib.Decide.{dec_lt}
 use Rattle.image.specs.Bytes.{range}
 use Rattle.image.specs.Head.{back_size_at}

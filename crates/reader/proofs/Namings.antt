@@ -1,5 +1,6 @@
 -- Naming: what is known where the back array can be read, and where a name has its place. Assumes nothing.
-use Rattle.std.proofs.Common.{◌≡◌, ℕ, ◌+◌, ◌-◌, ◌*◌, ◌<◌, ◌≤◌, Bool, true, false, cond, ◌||◌, eqb, ltb, leb, List, length, sym, ap, ◌∙◌, arith, ltb-false, leb-false}
+use Rattle.std.proofs.Common.{◌≡◌, ℕ, ◌+◌, ◌-◌, ◌*◌, ◌<◌, ◌≤◌, Bool, true, false, cond, ◌||◌, eqb, ltb, leb, List, length, sym, ap, ◌∙◌, arith, ltb-false}
+use Rattle.std.proofs.Common.{leb-false}
 use Rattle.image.specs.Bytes.{word}
 use Rattle.image.proofs.Bools.{or_false_first, or_false_second, chose_second}
 use Rattle.image.specs.Head.{back_size_at, back_offset_at, back_past_end}

@@ -1,5 +1,6 @@
 -- The pass over the tables' rows, a step at a time, and the cases of opening. Assumes nothing.
-use Rattle.std.proofs.Common.{◌≡◌, ℕ, suc, ◌+◌, ◌-◌, ◌*◌, ◌/◌, ◌%◌, ◌^◌, ◌<◌, ◌≤◌, Bool, false, cond, not, ◌&&◌, ◌||◌, eqb, ltb, List, length, sym, refl, ap, ◌∙◌, add-one, arith, le-ltb}
+use Rattle.std.proofs.Common.{◌≡◌, ℕ, suc, ◌+◌, ◌-◌, ◌*◌, ◌/◌, ◌%◌, ◌^◌, ◌<◌, ◌≤◌, Bool, false, cond, not, ◌&&◌, ◌||◌, eqb, ltb, List, length, sym, refl, ap}
+use Rattle.std.proofs.Common.{◌∙◌, add-one, arith, le-ltb}
 use mathlib.Core.Bool.{or_assoc, and-false}
 use Rattle.jhash.specs.Outcome.{value, refusal}
 use Rattle.image.specs.Bytes.{word}
@@ -30,7 +31,8 @@ num_from_more : (image : List ℕ) (t k : ℕ) → num_from image t (suc k) ≡ 
 unfolding num_from
 num_from_more image t k = refl
 
-past_end_more : (image : List ℕ) (t k : ℕ) → some_past_end image t (suc k) ≡ (ltb 0 (table_at image t) && table_past_end image t) || some_past_end image (suc t) k
+past_end_more : (image : List ℕ) (t k : ℕ) → some_past_end image t (suc k) ≡ (ltb 0 (table_at image t) && table_past_end image t)
+    || some_past_end image (suc t) k
 unfolding some_past_end
 past_end_more image t k = refl
 

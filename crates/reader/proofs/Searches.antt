@@ -1,5 +1,6 @@
 -- The search along the buckets, a step at a time. Assumes nothing.
-use Rattle.std.proofs.Common.{◌≡◌, ℕ, suc, ◌+◌, ◌-◌, ◌*◌, ◌/◌, ◌%◌, ◌<◌, ◌≤◌, Bool, true, false, cond, ◌||◌, eqb, ltb, leb, List, length, take, drop, sym, refl, ap, ◌∙◌, ap₂, arith, ltb-false, le-ltb, lt-ltb, eq-eqb, ne_eqb, leb-false}
+use Rattle.std.proofs.Common.{◌≡◌, ℕ, suc, ◌+◌, ◌-◌, ◌*◌, ◌/◌, ◌%◌, ◌<◌, ◌≤◌, Bool, true, false, cond, ◌||◌, eqb, ltb, leb, List, length, take, drop, sym}
+use Rattle.std.proofs.Common.{refl, ap, ◌∙◌, ap₂, arith, ltb-false, le-ltb, lt-ltb, eq-eqb, ne_eqb, leb-false}
 use native.Mathlib.Decide.{ℕ_discrete}
 use Rattle.jhash.specs.NameHash.{hash_of}
 use Rattle.image.specs.Bytes.{word, same}
@@ -46,7 +47,8 @@ module _ (image name : List ℕ) (h o n : ℕ) where
   unfolding search_along probe_sequence
   over k r = refl
 
-  more : (m k r : ℕ) → search_along bucket (probe_sequence n (suc m) k) r ≡ decide (bucket k) (r + 1) (search_along bucket (probe_sequence n m (next n k)) (r + 1))
+  more : (m k r : ℕ) → search_along bucket (probe_sequence n (suc m) k) r
+      ≡ decide (bucket k) (r + 1) (search_along bucket (probe_sequence n m (next n k)) (r + 1))
   unfolding search_along probe_sequence
   more m k r = refl
 

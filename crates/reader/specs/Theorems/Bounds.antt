@@ -15,7 +15,8 @@ pub record Bounds : Type 0 where
   -- none: in an image under 2,072 bytes, for a name of 4,294,967,295 bytes or more, in a table with offset 0, bucket
   -- number 0 or an end past the image
   pub lookup_unsearched : (image name : List ℕ)
-      → (nat_lt (length image) head_size || nat_le 4294967295 (length name) || unsearched image (table_of (hash_of name)))
+      → (nat_lt (length image) head_size || nat_le 4294967295 (length name)
+      || unsearched image (table_of (hash_of name)))
       ≡ true
       → lookup image name ≡ nothing 0
   -- each bucket that a search for a hash reads lies in the image, where the table does not leave it

@@ -1,4 +1,5 @@
--- `consistency::matching::has_match_in` meets its contract. The loop's invariant: what is left of the search matches the id exactly when the whole search does.
+-- `consistency::matching::has_match_in` meets its contract. The loop's invariant: what is left of the search matches the id exactly
+-- when the whole search does.
 -- Assumes nothing.
 use Prim.Native.Nat.{ℕ, ◌-◌}
 use native.Mathlib.Omega.{arith}
@@ -17,7 +18,9 @@ left_of c j =
     let a = c.args in
     matches_rest a.image.now a.name.now a.h a.at a.n j (c.loop-left.left - 1)
 
-step : (c : After-probe_bucket) (s : Probe) → probe_of c.probe_bucket.result ≡ s → any_match c.args.id (add_match s (c.args.n - (c.loop-left.left - 1)) ((left_of c) (next c.args.n c.loop-left.k))) ≡ (let a = c.args in any_match a.id (matches_in a.image.now a.name.now a.h a.at a.n))
+step : (c : After-probe_bucket) (s : Probe) → probe_of c.probe_bucket.result ≡ s
+    → any_match c.args.id (add_match s (c.args.n - (c.loop-left.left - 1)) ((left_of c) (next c.args.n c.loop-left.k)))
+    ≡ (let a = c.args in any_match a.id (matches_in a.image.now a.name.now a.h a.at a.n))
 step c s e =
     let a = c.args in
     ap (any_match a.id)
@@ -49,7 +52,8 @@ returns-in-Ends c = step (goal.at.returns-in-Ends c).After-probe_bucket ends (ap
 -- an entry with this id
 pub returns-then-hit-id : goal.returns-then-hit-id
 returns-then-hit-id c =
-    this_one c.in-Hit.hit.id c.args.id (any_match c.args.id (left_of (goal.at.returns-then-hit-id c).After-probe_bucket (next c.args.n c.loop-left.k))) c.if-hit-id.true
+    this_one c.in-Hit.hit.id c.args.id (any_match c.args.id (left_of (goal.at.returns-then-hit-id c).After-probe_bucket
+    (next c.args.n c.loop-left.k))) c.if-hit-id.true
     ∙ step (goal.at.returns-then-hit-id c).After-probe_bucket (hit (record { id = c.in-Hit.hit.id; offset = c.in-Hit.hit.offset })) (ap probe_of c.in-Hit.is)
 
 pub loop-left-smaller : goal.loop-left-smaller
@@ -65,8 +69,10 @@ loop-left-preserved c =
           ∙ elim c.match-probe_bucket.branch [
             | in-Pass w ↦ step (goal.at.loop-left-preserved c).After-probe_bucket pass (ap probe_of w.in-Pass.is)
             | in-Hit+else-hit-id w ↦
-                another w.in-Hit.hit.id c.args.id (any_match c.args.id (left_of (goal.at.loop-left-preserved c).After-probe_bucket (next c.args.n c.loop-left.k))) w.if-hit-id.false
-                ∙ step (goal.at.loop-left-preserved c).After-probe_bucket (hit (record { id = w.in-Hit.hit.id; offset = w.in-Hit.hit.offset })) (ap probe_of w.in-Hit.is)
+                another w.in-Hit.hit.id c.args.id (any_match c.args.id (left_of (goal.at.loop-left-preserved c).After-probe_bucket
+                (next c.args.n c.loop-left.k))) w.if-hit-id.false
+                ∙ step (goal.at.loop-left-preserved c).After-probe_bucket (hit (record { id = w.in-Hit.hit.id; offset = w.in-Hit.hit.offset }))
+                (ap probe_of w.in-Hit.is)
           ];
     }
 

@@ -1,4 +1,5 @@
--- `consistency::matching::has_match_in` meets its contract. The loop's invariant: what is left of the search matches the id exactly when the whole search does.
+-- `consistency::matching::has_match_in` meets its contract. The loop's invariant: what is left of the search matches the id exactly
+-- when the whole search does.
 -- Assumes nothing.
 use Rattle.consistency.proofs.MatchSearch.{MatchInv}
 use Rattle.consistency.proofs.matching.has_match_in.Given as goal

@@ -50,7 +50,8 @@ pub returns-then-n-eq0 : goal.returns-then-n-eq0
 returns-then-n-eq0 c =
     let a = c.args in
     record {
-      whole_is = walk_broken a.buf.now a.end a.entries a.counts.now c.loop-left.at c.loop-left.left c.loop-left.back c.loop-left.counts c.loop-left.invariant.rest
+      whole_is = walk_broken a.buf.now a.end a.entries a.counts.now c.loop-left.at c.loop-left.left c.loop-left.back c.loop-left.counts
+          c.loop-left.invariant.rest
           c.loop-left-test.true (sym c.if-n-eq0.true ∙ c.whole_length-n.ensures.is);
       back_is = λ z. absurd (false_not_true z);
       contains_is = λ z. absurd (false_not_true z);
@@ -97,13 +98,16 @@ loop-left-preserved c =
     let small : id.result < 4294967296 = omega (arith, id.type_inv) in
     record {
       rest = rw c.larger-back.ensures
-          (walk_step a.buf.now a.end a.entries a.counts.now c.loop-left.at c.loop-left.left c.loop-left.back c.loop-left.counts c.requires.inside c.loop-left.invariant.rest some
-          n.result c.hash_or_zero-h.result id.result name.result.now c.raise.new.counts (known (goal.at.loop-left-preserved c).Else-n-eq0) n.ensures.small small
+          (walk_step a.buf.now a.end a.entries a.counts.now c.loop-left.at c.loop-left.left c.loop-left.back c.loop-left.counts c.requires.inside
+          c.loop-left.invariant.rest some
+          n.result c.hash_or_zero-h.result id.result name.result.now c.raise.new.counts (known (goal.at.loop-left-preserved c).Else-n-eq0)
+          n.ensures.small small
           name.ensures.is
           (hash (goal.at.loop-left-preserved c).After-hash_or_zero-h)
           id.ensures c.raise.ensures);
       contains_rest = contains_step a.buf.now a.end a.entries a.sought.now c.loop-left.at c.loop-left.left c.loop-left.contains c.requires.inside
-          c.loop-left.invariant.rest.inside some c.loop-left.invariant.contains_rest n.result name.result.now c.is_sought-contains.result (known (goal.at.loop-left-preserved c).Else-n-eq0) name.ensures.is
+          c.loop-left.invariant.rest.inside some c.loop-left.invariant.contains_rest n.result name.result.now c.is_sought-contains.result
+          (known (goal.at.loop-left-preserved c).Else-n-eq0) name.ensures.is
           c.is_sought-contains.ensures;
     }
 
@@ -111,7 +115,8 @@ pub returns : goal.returns
 returns c =
     let a = c.args in
     let z : c.loop-left.left ≡ 0 = omega arith in
-    let e = walk_end a.buf.now a.end a.entries a.counts.now c.loop-left.at c.loop-left.back c.loop-left.counts c.requires.inside (rw z at c.loop-left.invariant.rest) in
+    let e = walk_end a.buf.now a.end a.entries a.counts.now c.loop-left.at c.loop-left.back c.loop-left.counts c.requires.inside
+    (rw z at c.loop-left.invariant.rest) in
     record {
       whole_is = e.0;
       back_is = λ w. e.1;

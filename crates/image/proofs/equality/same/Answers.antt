@@ -23,7 +23,8 @@ pub returns-then-word8 : goal.returns-then-word8
 returns-then-word8 c =
     let a = c.args in
     sym
-    (other_word8 a.a.now a.b.now c.loop-i.i (omega arith) (omega (arith, c.if-a-b.false)) (bytes_a (goal.at.returns-then-word8 c).After-word8-in-loop-i) (bytes_b (goal.at.returns-then-word8 c).After-word8-in-loop-i)
+    (other_word8 a.a.now a.b.now c.loop-i.i (omega arith) (omega (arith, c.if-a-b.false))
+    (bytes_a (goal.at.returns-then-word8 c).After-word8-in-loop-i) (bytes_b (goal.at.returns-then-word8 c).After-word8-in-loop-i)
     (λ e. c.if-word8.true (c.word8.ensures ∙ e ∙ sym c.word8-in-loop-i.ensures)))
     ∙ c.loop-i.invariant.rest
 
@@ -36,7 +37,8 @@ loop-i-preserved c =
     record {
       inside = omega arith;
       rest = sym
-          (same_word8 a.a.now a.b.now c.loop-i.i (omega arith) (omega (arith, c.if-a-b.false)) (bytes_a (goal.at.loop-i-preserved c).After-word8-in-loop-i) (bytes_b (goal.at.loop-i-preserved c).After-word8-in-loop-i)
+          (same_word8 a.a.now a.b.now c.loop-i.i (omega arith) (omega (arith, c.if-a-b.false))
+          (bytes_a (goal.at.loop-i-preserved c).After-word8-in-loop-i) (bytes_b (goal.at.loop-i-preserved c).After-word8-in-loop-i)
           (sym c.word8.ensures ∙ c.if-word8.false ∙ c.word8-in-loop-i.ensures))
           ∙ c.loop-i.invariant.rest;
     }

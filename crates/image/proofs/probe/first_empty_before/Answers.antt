@@ -19,7 +19,8 @@ returns-then-hide-eq0 c =
 
 pub loop-left-preserved : goal.loop-left-preserved
 loop-left-preserved c =
-    probing_next c.loop-left.invariant c.loop-left-test.true (λ z. c.if-hide-eq0.false (offset (goal.at.loop-left-preserved c).After-hide ∙ z)) c.next-i.result c.next-i.ensures
+    probing_next c.loop-left.invariant c.loop-left-test.true (λ z. c.if-hide-eq0.false (offset (goal.at.loop-left-preserved c).After-hide ∙ z))
+    c.next-i.result c.next-i.ensures
 
 pub returns : goal.returns
 returns c = probing_none c.loop-left.invariant (omega arith)

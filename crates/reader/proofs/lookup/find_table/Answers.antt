@@ -9,7 +9,11 @@ row_of : (c : After-word-n) → let a = c.args in Row a.image.now a.h c.word-at.
 row_of c = record { offset = c.word-at.ensures; number = c.word-n.ensures }
 
 pub returns-then-at-eq0 : goal.returns-then-at-eq0
-returns-then-at-eq0 c = record { unread = λ z. unread_offset (row_of (goal.at.returns-then-at-eq0 c).After-word-n) c.if-at-eq0.true; table = λ z. absurd (omega arith) }
+returns-then-at-eq0 c = record {
+  unread = λ z. unread_offset (row_of (goal.at.returns-then-at-eq0 c).After-word-n) c.if-at-eq0.true;
+  table = λ z.
+      absurd (omega arith);
+}
 
 pub returns-then-image-at : goal.returns-then-image-at
 returns-then-image-at c =

@@ -14,7 +14,9 @@ left_of c j =
     let a = c.args in
     search_rest a.image.now a.name.now a.h a.at a.n j (c.loop-left.left - 1)
 
-step : (c : After-probe_bucket) (s : Probe) → probe_of c.probe_bucket.result ≡ s → decide s (c.args.n - (c.loop-left.left - 1)) ((left_of c) (next c.args.n c.loop-left.k)) ≡ (let a = c.args in search_rest a.image.now a.name.now a.h a.at a.n a.first a.m)
+step : (c : After-probe_bucket) (s : Probe) → probe_of c.probe_bucket.result ≡ s
+    → decide s (c.args.n - (c.loop-left.left - 1)) ((left_of c) (next c.args.n c.loop-left.k))
+    ≡ (let a = c.args in search_rest a.image.now a.name.now a.h a.at a.n a.first a.m)
 step c s e =
     let a = c.args in
     rest_step a.image.now a.name.now a.h a.at a.n c.loop-left.k c.loop-left.left s (omega arith) c.loop-left.invariant.most
@@ -45,7 +47,8 @@ loop-left-preserved c =
     record {
       bucket = c.next-k.ensures.inside;
       most = omega arith;
-      same = ap (left_of (goal.at.loop-left-preserved c).After-probe_bucket) c.next-k.ensures.is ∙ step (goal.at.loop-left-preserved c).After-probe_bucket pass (ap probe_of c.in-Pass.is);
+      same = ap (left_of (goal.at.loop-left-preserved c).After-probe_bucket) c.next-k.ensures.is
+          ∙ step (goal.at.loop-left-preserved c).After-probe_bucket pass (ap probe_of c.in-Pass.is);
     }
 
 pub returns : goal.returns

@@ -52,7 +52,8 @@ returns-then-some_past_end c =
     let of_word = c.word in
     opening_by image false true true true _ (le-ltb (length image) 2072 c.if-image-lt-HEAD_SIZE.false)
     (sym of-has-letters.ensures ∙ c.if-not-has_letters.false)
-    (eq-eqb (word image 12) 0x62445371 (sym of_word.ensures ∙ c.if-word-ne-BYTEORDER_CHECK.false)) (sym c.some_past_end.ensures ∙ c.if-some_past_end.true) refl
+    (eq-eqb (word image 12) 0x62445371 (sym of_word.ensures ∙ c.if-word-ne-BYTEORDER_CHECK.false))
+    (sym c.some_past_end.ensures ∙ c.if-some_past_end.true) refl
 
 pub returns-then-back_past_end : goal.returns-then-back_past_end
 returns-then-back_past_end c =
