@@ -6,7 +6,7 @@ use Rattle.serialize.proofs.begin_image.Goals as goal
 pub clear_bytes-requires : goal.clear_bytes-requires
 clear_bytes-requires c =
     let size = c.finished_size-size.ensures in
-    record { order = omega (arith, size); inside = omega (arith, size, c.requires.fits_buffer, c.write_front.auto.1.1.1.1.1.0) }
+    record { order = omega (arith, size); inside = omega (arith, size, c.requires.fits_buffer, c.write_front.auto.buf) }
 
 pub returns : goal.returns
 returns c =

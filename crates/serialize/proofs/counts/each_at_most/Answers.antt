@@ -19,7 +19,7 @@ pub returns : goal.returns
 returns c =
     let z : 256 - c.loop-t.t ≡ 0 = omega arith in
     all_end (λ (k : ℕ). leb (get_or c.args.counts.now k 0) c.args.entries) c.loop-t.t _ _
-    (rw z at c.loop-t.invariant.false)
+    (rw z at c.loop-t.invariant.left)
 
 pub loop-t-init : goal.loop-t-init
 loop-t-init c = record { inside = omega arith; left = refl }

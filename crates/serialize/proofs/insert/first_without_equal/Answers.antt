@@ -51,10 +51,10 @@ pub word-other-requires : goal.word-other-requires
 word-other-requires c = omega (arith, inside (goal.at.word-other-requires c).At-loop-left)
 
 pub returns-then-other-h : goal.returns-then-other-h
-returns-then-other-h c = absurd (omega arith)
+returns-then-other-h c = λ end at below. absurd (omega arith)
 
 pub next-k-requires : goal.next-k-requires
 next-k-requires c = (c.loop-left.invariant (λ x. true)).inside
 
 pub returns : goal.returns
-returns c = absurd (omega arith)
+returns c = λ end at below. absurd (omega arith)

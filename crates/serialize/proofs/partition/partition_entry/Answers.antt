@@ -6,5 +6,5 @@ use Rattle.serialize.proofs.partition.partition_entry.Goals as goal
 pub returns : goal.returns
 returns c =
     let a = c.args in
-    entry_partitioned a.mode a.back_offset_lem a.at a.id a.h a.places.now a.buf.now c.append_pair.ensures
+    entry_partitioned a.mode a.back_offset a.at a.id a.h a.places.now a.buf.now c.append_pair.ensures
     c.store_back.ensures

@@ -44,8 +44,8 @@ loop-t-preserved c =
     let leaves = done.ensures.leaves c.if-stop-one.false in
     record {
       most = omega (arith, less);
-      long = done.auto.0 ∙ c.loop-t.invariant.long;
-      copy_long = done.auto.1.1.1.1.0 ∙ c.loop-t.invariant.copy_long;
+      long = done.auto.buf ∙ c.loop-t.invariant.long;
+      copy_long = done.auto.copy ∙ c.loop-t.invariant.copy_long;
       leaves = tables_step a.counts.now c.loop-t.buf _ c.loop-t.o c.loop-t.t 256 c.as_u64-c.result less c.as_u64-c.ensures.is leaves c.loop-t.invariant.leaves;
       near = omega (arith, c.as_u64-c.ensures.small, c.loop-t.invariant.near);
       behind = omega (arith, c.loop-t.invariant.behind);

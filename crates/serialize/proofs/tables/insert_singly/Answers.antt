@@ -8,7 +8,7 @@ insert_entries-requires c =
     let pre = c.requires in
     record {
       low = pre.low;
-      inside = omega (arith, pre.within, pre.inside, c.clear_bytes.auto.0);
+      inside = omega (arith, pre.within, pre.inside, c.clear_bytes.auto.buf);
       end_word = omega (arith, pre.within, pre.size_word);
       back_word = pre.back_word;
     }
@@ -16,5 +16,5 @@ insert_entries-requires c =
 pub returns : goal.returns
 returns c =
     let a = c.args in
-    inserted_in a.mode a.back_offset_lem a.end a.entries a.size a.buf.now c.clear_bytes.ensures
+    inserted_in a.mode a.back_offset a.end a.entries a.size a.buf.now c.clear_bytes.ensures
     c.insert_entries.ensures
