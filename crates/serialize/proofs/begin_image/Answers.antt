@@ -1,5 +1,5 @@
 -- `serialize::begin_image` meets its contract. Assumes nothing.
-use Rattle.std.proofs.Common.{arith, rules}
+use Rattle.std.proofs.Common.{arith}
 use Rattle.serialize.proofs.WriteSteps.{begun_parts}
 use Rattle.serialize.proofs.begin_image.Goals as goal
 

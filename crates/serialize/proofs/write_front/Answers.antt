@@ -1,5 +1,5 @@
 -- `serialize::write_front` meets its contract. Assumes nothing.
-use Rattle.std.proofs.Common.{arith, rules}
+use Rattle.std.proofs.Common.{arith}
 use Rattle.serialize.proofs.WriteSteps.{back_offset_le, headed_parts}
 use Rattle.serialize.proofs.write_front.Goals as goal
 

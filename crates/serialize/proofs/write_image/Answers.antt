@@ -1,5 +1,5 @@
 -- `serialize::write_image` meets its contract. Assumes nothing.
-use Rattle.std.proofs.Common.{arith, rules}
+use Rattle.std.proofs.Common.{arith}
 use Rattle.image.proofs.EntryArea.{AllBytes}
 use Rattle.serialize.specs.Steps.Written.{FillAllPre}
 use Rattle.serialize.proofs.WriteSteps.{back_offset_le}

@@ -1,9 +1,6 @@
 -- `serialize::counts::each_at_most` meets its contract. Assumes nothing.
-use Rattle.std.proofs.Common.{◌≡◌, ℕ, ◌-◌, ◌<◌, ◌≤◌, Bool, ◌&&◌, leb, List, get_or, refl, arith}
-use Rattle.serialize.specs.Record.{none_above}
-use Rattle.image.specs.Bytes.{all}
+use Rattle.std.proofs.Common.{◌≡◌, ℕ, ◌-◌, ◌<◌, leb, get_or, refl, arith}
 use Rattle.image.proofs.AllOfRange.{all_more, all_end}
-use Rattle.serialize.proofs.counts.each_at_most.Invariants.{Inv}
 use Rattle.serialize.proofs.counts.each_at_most.Goals as goal
 
 pub loop-t-preserved : goal.loop-t-preserved

@@ -1,6 +1,5 @@
 -- `serialize::head::write_head` meets its contract. Assumes nothing.
 use Rattle.serialize.proofs.HeadStores.{head_stored}
-use Rattle.std.proofs.Common.{rules}
 use Rattle.serialize.proofs.head.write_head.Goals as goal
 
 pub returns : goal.returns

@@ -1,11 +1,7 @@
 -- `serialize::head::write_rows` meets its contract. Assumes nothing.
-use Rattle.std.proofs.Common.{◌≡◌, ℕ, ◌+◌, ◌-◌, ◌*◌, ◌≤◌, List, length, refl, ◌∙◌, arith, rules}
-use lib.Seq.{sets}
-use Rattle.serialize.specs.Steps.Partition.{table_offsets_from}
-use Rattle.serialize.specs.Steps.Written.{rows_from_lem}
+use Rattle.std.proofs.Common.{◌≡◌, ◌+◌, ◌-◌, ◌*◌, ◌≤◌, length, refl, ◌∙◌, arith}
 use Rattle.serialize.proofs.HeadStores.{rows_step, rows_end}
 use Rattle.serialize.proofs.PartitionSteps.{table_offsets_step, table_offsets_end}
-use Rattle.serialize.proofs.head.write_rows.Invariants.{Storing}
 use Rattle.serialize.proofs.head.write_rows.Goals.{In-loop-t}
 use Rattle.serialize.proofs.head.write_rows.Goals as goal
 

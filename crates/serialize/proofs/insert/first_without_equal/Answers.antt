@@ -1,6 +1,6 @@
 -- `serialize::insert::first_without_equal` meets its contract. The loop's invariant: the probe sequence that is left tells what the whole one tells,
 -- whatever the names. Assumes nothing.
-use Rattle.std.proofs.Common.{ℕ, ◌+◌, ◌*◌, ◌≤◌, Bool, true, length, sym, ◌∙◌, subst, arith, rules}
+use Rattle.std.proofs.Common.{◌+◌, ◌*◌, ◌≤◌, true, length, sym, ◌∙◌, subst, arith}
 use Rattle.lookup_laws.proofs.SlotSearch.{Remaining, remaining_start, remaining_step, first_empty_lem, none_matches}
 use Rattle.serialize.specs.Steps.Meeting.{bucket_at}
 use Rattle.serialize.proofs.insert.first_without_equal.Goals.{At-loop-left}

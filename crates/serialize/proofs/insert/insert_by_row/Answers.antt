@@ -1,6 +1,4 @@
 -- `serialize::insert::insert_by_row` meets its contract. Assumes nothing.
-use Rattle.std.proofs.Common.{rules}
-use borrow.Author.Tests.{not-true, not-false}
 use Rattle.serialize.proofs.Insertion.{table_in, row_none, row_inserted}
 use Rattle.serialize.proofs.insert.insert_by_row.Goals as goal
 

@@ -1,7 +1,7 @@
 -- `serialize::insert::insert_entries` meets its contract. Assumes nothing.
-use Rattle.std.proofs.Common.{◌+◌, ◌<◌, ◌≤◌, refl, arith, rules}
+use Rattle.std.proofs.Common.{◌+◌, ◌<◌, ◌≤◌, refl, arith}
 use Rattle.serialize.specs.Steps.Insertion.{EntryPre}
-use Rattle.serialize.proofs.Insertion.{not_met, stopped, entry_in, Inserting, inserted_broken, inserted_step, inserted_all}
+use Rattle.serialize.proofs.Insertion.{not_met, stopped, entry_in, inserted_broken, inserted_step, inserted_all}
 use Rattle.serialize.proofs.insert.insert_entries.Goals.{After-insert_entry-one, Else-n-eq0}
 use Rattle.serialize.proofs.insert.insert_entries.Goals as goal
 

@@ -1,5 +1,4 @@
 -- `serialize::insert::insert_entry` meets its contract. Assumes nothing.
-use Rattle.std.proofs.Common.{rules}
 use Rattle.serialize.proofs.Insertion.{entry_inserted_lem}
 use Rattle.serialize.proofs.insert.insert_entry.Goals as goal
 

@@ -1,5 +1,5 @@
 -- `serialize::insert::store_back` meets its contract. Assumes nothing.
-use Rattle.std.proofs.Common.{sym, ap, ◌∙◌, rules}
+use Rattle.std.proofs.Common.{sym, ap, ◌∙◌}
 use Rattle.image.specs.declared.Mode.{Mode}
 use Rattle.serialize.specs.Steps.Insertion.{back_stored}
 use Rattle.serialize.proofs.insert.store_back.Goals as goal

@@ -1,6 +1,5 @@
 -- `serialize::insert::store_pair` meets its contract. Assumes nothing.
 use Rattle.serialize.proofs.Insertion.{pair_stored}
-use Rattle.std.proofs.Common.{rules}
 use Rattle.serialize.proofs.insert.store_pair.Goals as goal
 
 pub returns : goal.returns

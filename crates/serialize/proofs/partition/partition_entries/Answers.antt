@@ -1,8 +1,8 @@
 -- `serialize::partition::partition_entries` meets its contract. Assumes nothing.
-use Rattle.std.proofs.Common.{◌+◌, ◌<◌, ◌≤◌, refl, arith, rules}
+use Rattle.std.proofs.Common.{◌+◌, ◌<◌, ◌≤◌, refl, arith}
 use Rattle.serialize.specs.Steps.Insertion.{EntryPre}
 use Rattle.serialize.proofs.Insertion.{entry_in}
-use Rattle.serialize.proofs.PartitionSteps.{Partitioning, partitioned_broken, partitioned_step, partitioned_all}
+use Rattle.serialize.proofs.PartitionSteps.{partitioned_broken, partitioned_step, partitioned_all}
 use Rattle.serialize.proofs.partition.partition_entries.Goals.{After-partition_entry, Else-n-eq0}
 use Rattle.serialize.proofs.partition.partition_entries.Goals as goal
 

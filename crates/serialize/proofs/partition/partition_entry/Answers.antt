@@ -1,5 +1,4 @@
 -- `serialize::partition::partition_entry` meets its contract. Assumes nothing.
-use Rattle.std.proofs.Common.{rules}
 use Rattle.serialize.proofs.PartitionSteps.{entry_partitioned}
 use Rattle.serialize.proofs.partition.partition_entry.Goals as goal
 

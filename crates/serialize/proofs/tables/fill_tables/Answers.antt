@@ -1,11 +1,10 @@
 -- `serialize::tables::fill_tables` meets its contract. Assumes nothing.
-use Rattle.std.proofs.Common.{◌≡◌, ℕ, ◌+◌, ◌-◌, ◌*◌, ◌≤◌, Bool, false, List, length, take, sym, refl, ap, ◌∙◌, subst, arith, rules}
+use Rattle.std.proofs.Common.{◌≡◌, ℕ, ◌-◌, List, take, sym, refl, ap, ◌∙◌, subst, arith}
 use Rattle.image.proofs.Bools.{or_false_first, or_false_second}
-use Rattle.serialize.specs.Steps.Partition.{pairs_stored, tables_from}
+use Rattle.serialize.specs.Steps.Partition.{pairs_stored}
 use Rattle.serialize.specs.Steps.Meeting.{Apart, TablesApart}
 use Rattle.serialize.proofs.Insertion.{not_met, stopped}
 use Rattle.serialize.proofs.PartitionSteps.{tables_step, front_kept, apart_next, tables_end}
-use Rattle.serialize.proofs.tables.fill_tables.Invariants.{Filling}
 use Rattle.serialize.proofs.tables.fill_tables.Goals as goal
 
 -- ---- the needs

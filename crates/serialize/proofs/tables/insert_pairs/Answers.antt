@@ -1,7 +1,7 @@
 -- `serialize::tables::insert_pairs` meets its contract. Assumes nothing.
-use Rattle.std.proofs.Common.{◌-◌, refl, ◌∙◌, arith, rules}
+use Rattle.std.proofs.Common.{refl, ◌∙◌, arith}
 use Rattle.serialize.proofs.Insertion.{not_met, stopped}
-use Rattle.serialize.proofs.TableFill.{Filling, filling_start, filling_step, filling_end}
+use Rattle.serialize.proofs.TableFill.{filling_start, filling_step, filling_end}
 use Rattle.serialize.proofs.tables.insert_pairs.Goals as goal
 
 pub loop-i-init : goal.loop-i-init

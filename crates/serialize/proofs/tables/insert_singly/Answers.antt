@@ -1,5 +1,5 @@
 -- `serialize::tables::insert_singly` meets its contract. Assumes nothing.
-use Rattle.std.proofs.Common.{arith, rules}
+use Rattle.std.proofs.Common.{arith}
 use Rattle.serialize.proofs.Insertion.{inserted_in}
 use Rattle.serialize.proofs.tables.insert_singly.Goals as goal
 
