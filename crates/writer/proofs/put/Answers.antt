@@ -12,7 +12,7 @@ returns-then-refusal-ne0 c =
     let a = c.args in
     let s = state_with a.w a.counts.now a.buf.now in
     let e = entry_of a.name.now a.id in
-    (c.put_refusal-refusal.ensures, refused_leaves s e c.put_refusal-refusal.result c.put_refusal-refusal.ensures c.if-refusal-ne0.true)
+    record { answer = c.put_refusal-refusal.ensures; leaves = refused_leaves s e c.put_refusal-refusal.result c.put_refusal-refusal.ensures c.if-refusal-ne0.true }
 
 pub returns : goal.returns
 returns c =
@@ -20,4 +20,4 @@ returns c =
     let s = state_with a.w a.counts.now a.buf.now in
     let e = entry_of a.name.now a.id in
     let none = sym c.put_refusal-refusal.ensures ∙ c.if-refusal-ne0.false in
-    (sym none, c.hash_and_append-writer.ensures ∙ accepted_leaves s e none)
+    record { answer = sym none; leaves = c.hash_and_append-writer.ensures ∙ accepted_leaves s e none }

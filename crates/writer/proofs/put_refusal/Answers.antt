@@ -16,7 +16,7 @@ use Rattle.writer.proofs.put_refusal.Goals.{After-too_large, Else-earlier-ne0, E
 use Rattle.writer.proofs.put_refusal.Goals as goal
 
 fitted : (c : Else-not-fits) → fits (state_with c.args.w c.args.counts.now c.args.buf.now) ≡ true
-fitted c = sym c.fits2.ensures ∙ c.if-not-fits.false
+fitted c = sym c.fits.ensures ∙ c.if-not-fits.false
 
 zero_free : (c : Else-has_zero) → has_zero c.args.name.now ≡ false
 zero_free c = sym c.has_zero.ensures ∙ c.if-has_zero.false
@@ -25,7 +25,7 @@ none_due : (c : Else-earlier-ne0) → earlier_refusal (state_with c.args.w c.arg
 none_due c = sym c.earlier_refusal-earlier.ensures ∙ c.if-earlier-ne0.false
 
 pub returns-then-not-fits : goal.returns-then-not-fits
-returns-then-not-fits c = refuses_unfit (state_with c.args.w c.args.counts.now c.args.buf.now) (entry_of c.args.name.now c.args.id) (sym c.fits2.ensures ∙ c.if-not-fits.true)
+returns-then-not-fits c = refuses_unfit (state_with c.args.w c.args.counts.now c.args.buf.now) (entry_of c.args.name.now c.args.id) (sym c.fits.ensures ∙ c.if-not-fits.true)
 
 pub returns-then-has_zero : goal.returns-then-has_zero
 returns-then-has_zero c =

@@ -11,4 +11,4 @@ returns c =
     ap₂ {C = Record}
     (λ (m r : ℕ). record { mode = m; repeats = r; entries = w.entries; back = w.back; length = w.length; end = w.end })
     c.flag_word.ensures
-    c.repeats_word_lem.ensures
+    c.repeats_word.ensures

@@ -11,5 +11,5 @@ returns c =
     let r = c.args.r in
     ap₂ {C = CQDBWriter}
     (λ (f : Mode) (g : Repeats). record { mode = f; repeats = g; length = r.length; end = r.end; entries = r.entries; back = r.back })
-    c.Mode-of.ensures
+    c.mode_of-mode.ensures
     c.repeats_of-repeats.ensures

@@ -25,7 +25,7 @@ pub returns : goal.returns
 returns c =
     let a = c.args in
     let z : 256 - c.loop-t.t ≡ 0 = omega arith in
-    all_end (λ (k : ℕ). eqb (get_or a.a.now k 0) (get_or a.b.now k 0)) c.loop-t.t _ _ (rw z at c.loop-t.invariant.false)
+    all_end (λ (k : ℕ). eqb (get_or a.a.now k 0) (get_or a.b.now k 0)) c.loop-t.t _ _ (rw z at c.loop-t.invariant.left)
 
 pub loop-t-init : goal.loop-t-init
 loop-t-init c = record { inside = omega arith; left = refl }
