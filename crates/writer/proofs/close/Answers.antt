@@ -2,7 +2,6 @@
 use Rattle.writer.specs.State.{state_with}
 use Rattle.writer.proofs.Closes.{refused, written}
 use mathlib.Core.Path.{sym, ◌∙◌}
-use borrow.Author.Rules.{rules}
 use Rattle.writer.proofs.close.Goals as goal
 
 pub returns-then-refusal-ne0 : goal.returns-then-refusal-ne0

@@ -2,11 +2,9 @@
 use native.Mathlib.Omega.{arith}
 use mathlib.Core.Path.{◌≡◌, sym, ap, ◌∙◌}
 use mathlib.Core.Bool.{true}
-use borrow.Author.Tests.{not-true, not-false}
-use Rattle.writer.specs.State.{State, state_with, fits, too_large, finished_size}
+use Rattle.writer.specs.State.{state_with, fits, too_large, finished_size}
 use Rattle.writer.proofs.Fits.{fitting, end_inside}
 use Rattle.writer.proofs.Closes.{due_unfit, due_big, due_differs, due_none}
-use borrow.Author.Rules.{rules}
 use Rattle.writer.proofs.close_refusal.Goals.{After-too_large, Else-not-fits}
 use Rattle.writer.proofs.close_refusal.Goals as goal
 

@@ -3,7 +3,6 @@ use mathlib.Core.Path.{sym, ◌∙◌}
 use Rattle.writer.specs.State.{state_with}
 use Rattle.writer.specs.Put.{entry_of}
 use Rattle.writer.proofs.Puts.{refused_leaves, accepted_leaves}
-use borrow.Author.Rules.{rules}
 use Rattle.writer.proofs.put.Goals as goal
 
 -- ---- the needs

@@ -2,16 +2,13 @@
 use native.Mathlib.Omega.{arith}
 use mathlib.Core.Path.{◌≡◌, sym, ap, ◌∙◌}
 use mathlib.Core.Bool.{true, false}
-use Rattle.image.specs.Image.{Entry}
 use lib.ListN.{length}
-use borrow.Author.Tests.{not-true, not-false}
 use Rattle.image.specs.Zero.{has_zero}
-use Rattle.writer.specs.State.{State, state_with, fits, finished_size, too_large}
+use Rattle.writer.specs.State.{state_with, fits, finished_size, too_large}
 use Rattle.writer.specs.Put.{entry_of, writer_after_put, writer_after_entry}
 use Rattle.writer.specs.Steps.Earlier.{earlier_refusal}
 use Rattle.writer.proofs.Fits.{fitting, end_inside}
 use Rattle.writer.proofs.Puts.{refuses_unfit, refuses_zero, refuses_earlier, refuses_full, accepts, long_name}
-use borrow.Author.Rules.{rules}
 use Rattle.writer.proofs.put_refusal.Goals.{After-too_large, Else-earlier-ne0, Else-has_zero, Else-not-fits}
 use Rattle.writer.proofs.put_refusal.Goals as goal
 

@@ -2,7 +2,6 @@
 use Prim.Native.Nat.{ℕ}
 use mathlib.Core.Path.{ap₂}
 use Rattle.writer.specs.declared.c_record.Record.{Record}
-use borrow.Author.Rules.{rules}
 use Rattle.writer.proofs.c_record.record_of.Goals as goal
 
 pub returns : goal.returns

@@ -3,7 +3,6 @@ use mathlib.Core.Path.{ap₂}
 use Rattle.image.specs.declared.Mode.{Mode}
 use Rattle.writer.specs.declared.Repeats.{Repeats}
 use Rattle.writer.specs.declared.CQDBWriter.{CQDBWriter}
-use borrow.Author.Rules.{rules}
 use Rattle.writer.proofs.c_record.writer_of.Goals as goal
 
 pub returns : goal.returns

@@ -1,15 +1,10 @@
 -- `writer::check::same_counts` meets its contract. Assumes nothing.
 use native.Mathlib.Omega.{arith}
-use Prim.Native.Nat.{ℕ, ◌<◌, ◌≤◌, ◌-◌}
+use Prim.Native.Nat.{ℕ, ◌<◌, ◌-◌}
 use mathlib.Core.Path.{◌≡◌, refl}
-use mathlib.Core.Bool.{Bool, ◌&&◌}
-use mathlib.Core.List.{List}
 use lib.ListN.{get_or}
 use lib.Dec.{eqb}
-use Rattle.image.specs.Bytes.{all}
-use Rattle.writer.specs.Steps.Earlier.{same_counts}
 use Rattle.image.proofs.AllOfRange.{all_more, all_end}
-use Rattle.writer.proofs.check.same_counts.Invariants.{Inv}
 use Rattle.writer.proofs.check.same_counts.Goals as goal
 
 pub loop-t-preserved : goal.loop-t-preserved

@@ -6,7 +6,6 @@ use Rattle.writer.specs.State.{state_with}
 use Rattle.writer.specs.Steps.Earlier.{walk_refusal}
 use Rattle.writer.proofs.Agree.{zeros}
 use Rattle.writer.proofs.Earlier.{not_whole, other_counts, other_back, by_name}
-use borrow.Author.Rules.{rules}
 use Rattle.writer.proofs.check.walk_refusal.Goals.{Else-not-walked, Else-w-back_in}
 use Rattle.writer.proofs.check.walk_refusal.Goals as goal
 

@@ -1,5 +1,4 @@
 -- `writer::entry::append` meets its contract. Assumes nothing.
-use borrow.Author.Rules.{rules}
 use Rattle.writer.proofs.Puts.{appended_parts}
 use Rattle.writer.proofs.entry.append.Goals as goal
 

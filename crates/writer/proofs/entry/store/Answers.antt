@@ -1,7 +1,6 @@
 -- `writer::entry::store` meets its contract. Assumes nothing.
 use lib.ListN.{length-set}
 use native.Mathlib.Omega.{arith}
-use borrow.Author.Rules.{rules}
 use Rattle.writer.proofs.EntryStored.{stored_parts}
 use Rattle.writer.proofs.entry.store.Goals as goal
 
