@@ -1,12 +1,12 @@
 -- `serialize::begin_image` meets its contract. Assumes nothing.
-use Rattle.std.proofs.Common.{arith, rules}
+use Rattle.std.proofs.Common.{arith}
 use Rattle.serialize.proofs.WriteSteps.{begun_parts}
 use Rattle.serialize.proofs.begin_image.Goals as goal
 
 pub clear_bytes-requires : goal.clear_bytes-requires
 clear_bytes-requires c =
     let size = c.finished_size-size.ensures in
-    record { order = omega (arith, size); inside = omega (arith, size, c.requires.fits_buffer, c.write_front.auto.1.1.1.1.1.0) }
+    record { order = omega (arith, size); inside = omega (arith, size, c.requires.fits_buffer, c.write_front.auto.buf) }
 
 pub returns : goal.returns
 returns c =

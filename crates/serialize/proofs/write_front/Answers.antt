@@ -1,5 +1,5 @@
 -- `serialize::write_front` meets its contract. Assumes nothing.
-use Rattle.std.proofs.Common.{arith, rules}
+use Rattle.std.proofs.Common.{arith}
 use Rattle.serialize.proofs.WriteSteps.{back_offset_le, headed_parts}
 use Rattle.serialize.proofs.write_front.Goals as goal
 
@@ -7,11 +7,11 @@ use Rattle.serialize.proofs.write_front.Goals as goal
 pub overflow_cast-back_offset : goal.overflow_cast-back_offset
 overflow_cast-back_offset c =
     let a = c.args in
-    omega (arith, c.back_offset_lem.ensures, back_offset_le a.mode a.end a.entries a.back, c.requires.fits_word)
+    omega (arith, c.back_offset-back_offset.ensures, back_offset_le a.mode a.end a.entries a.back, c.requires.fits_word)
 
 pub write_rows-requires : goal.write_rows-requires
 write_rows-requires c =
-    omega (arith, c.write_head.auto.0, c.requires.low, c.requires.fits_buffer)
+    omega (arith, c.write_head.auto.buf, c.requires.low, c.requires.fits_buffer)
 
 pub returns : goal.returns
 returns c =
@@ -19,7 +19,7 @@ returns c =
     let of-write-rows = c.write_rows in
     let of-write-head = c.write_head in
     let of-flag-word = c.flag_word in
-    let of-back-at = c.back_offset_lem in
+    let of-back-at = c.back_offset-back_offset in
     let of-back-in = c.back_in-back_size in
     let of-finished-size = c.finished_size-size in
     record {

@@ -1,5 +1,5 @@
 -- `serialize::write_image` meets its contract. Assumes nothing.
-use Rattle.std.proofs.Common.{arith, rules}
+use Rattle.std.proofs.Common.{arith}
 use Rattle.image.proofs.EntryArea.{AllBytes}
 use Rattle.serialize.specs.Steps.Written.{FillAllPre}
 use Rattle.serialize.proofs.WriteSteps.{back_offset_le}
@@ -12,7 +12,7 @@ bytes : (c : After-back_offset-back_offset) → AllBytes c.args.buf.now
 bytes c i = omega (arith, c.slice_known-1.given i)
 
 -- entries end in the image, and the image in the buffer
-room : (c : After-back_offset-back_offset) → FillAllPre c.back_offset_lem.result c.args.end c.finished_size-size.result c.begin_image.new.buf
+room : (c : After-back_offset-back_offset) → FillAllPre c.back_offset-back_offset.result c.args.end c.finished_size-size.result c.begin_image.new.buf
 room c =
     let pre = c.requires in
     let a = c.args in
@@ -20,9 +20,9 @@ room c =
     record {
       low = pre.after_head;
       within = omega (arith, size);
-      inside = omega (arith, size, pre.fits_buffer, c.begin_image.auto.1.1.1.1.1.0);
+      inside = omega (arith, size, pre.fits_buffer, c.begin_image.auto.buf);
       size_word = omega (arith, size, pre.fits_word);
-      back_word = omega (arith, c.back_offset_lem.ensures, back_offset_le a.mode a.end a.entries a.back, pre.fits_word);
+      back_word = omega (arith, c.back_offset-back_offset.ensures, back_offset_le a.mode a.end a.entries a.back, pre.fits_word);
     }
 
 -- ---- the needs
@@ -30,7 +30,7 @@ pub returns-then-not-by_tables : goal.returns-then-not-by_tables
 returns-then-not-by_tables c =
     let a = c.args in
     written_singly a.mode a.end a.entries a.back a.counts.now a.buf.now (bytes (goal.at.returns-then-not-by_tables c).After-back_offset-back_offset) c.requires
-    c.finished_size-size.ensures c.back_offset_lem.ensures c.begin_image.ensures.image c.insert_singly.ensures
+    c.finished_size-size.ensures c.back_offset-back_offset.ensures c.begin_image.ensures.image c.insert_singly.ensures
 
 pub partition_entries-requires : goal.partition_entries-requires
 partition_entries-requires c =
@@ -43,7 +43,7 @@ fill_all-requires c =
     record {
       low = r.low;
       within = r.within;
-      inside = omega (arith, r.inside, c.partition_entries.auto.1.1.0);
+      inside = omega (arith, r.inside, c.partition_entries.auto.buf);
       size_word = r.size_word;
       back_word = r.back_word;
     }
@@ -52,7 +52,7 @@ pub returns : goal.returns
 returns c =
     let a = c.args in
     written_by_tables a.mode a.end a.entries a.back a.counts.now a.buf.now (bytes (goal.at.returns c).After-back_offset-back_offset) c.requires
-    c.finished_size-size.ensures c.back_offset_lem.ensures c.begin_image.ensures.image c.begin_image.ensures.begins
+    c.finished_size-size.ensures c.back_offset-back_offset.ensures c.begin_image.ensures.image c.begin_image.ensures.begins
     c.partition_entries.ensures c.fill_all.ensures
 
 pub insert_singly-requires : goal.insert_singly-requires

@@ -1,6 +1,6 @@
 -- What inserting entries one by one into tables and back array leaves, as the code goes. No rule of 01 stands here:
 -- proofs/ shows that all steps together leave the image.
-use Rattle.std.specs.Prelude.{◌≡◌, ℕ, zero, suc, ◌+◌, ◌-◌, ◌*◌, ◌<◌, ◌≤◌, Bool, cond, ◌&&◌, List, ◌++◌, length, take, drop, ◌==◌, nat_le}
+use Rattle.std.specs.Prelude.{ℕ, zero, suc, ◌+◌, ◌-◌, ◌*◌, ◌<◌, ◌≤◌, Bool, cond, ◌&&◌, List, ◌++◌, length, take, drop, ◌==◌, nat_le}
 use Rattle.std.proofs.lemmas.List.Edits.{sets}
 use Rattle.jhash.specs.NameHash.{hash_of}
 use Rattle.image.specs.Bytes.{word, le32}

@@ -1,7 +1,7 @@
 -- Whether two entries of equal name meet while the tables are filled: what each step leaves, as the code goes, and what
 -- holds if it has met none. With `stop` a step ends where an entry meets one of equal name, and then nothing is said of
 -- what it leaves. No rule of 01 stands here.
-use Rattle.std.specs.Prelude.{◌≡◌, ℕ, zero, suc, ◌+◌, ◌-◌, ◌*◌, ◌<◌, ◌≤◌, Bool, true, false, ◌&&◌, ◌⊎◌, List, [], ◌∷◌, length, take, drop, ◌≢◌, slice_index}
+use Rattle.std.specs.Prelude.{◌≡◌, ℕ, zero, suc, ◌+◌, ◌-◌, ◌*◌, ◌<◌, ◌≤◌, Bool, false, ◌&&◌, ◌⊎◌, List, [], ◌∷◌, length, take, drop, ◌≢◌, slice_index}
 use Rattle.image.specs.Bytes.{word, same, Each}
 use Rattle.image.specs.Head.{table_at, bucket_number}
 use Rattle.image.specs.Tables.{Bucket, table_of, start, probe_sequence, first_empty}

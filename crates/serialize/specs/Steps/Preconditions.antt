@@ -1,6 +1,6 @@
 -- What writing the image asks of its callers, as the code needs it. No rule of 01 stands here: close has checked as
 -- much, by specs/Close of the crate writer.
-use Rattle.std.specs.Prelude.{◌≡◌, ℕ, ◌+◌, ◌*◌, ◌≤◌, true, List, length}
+use Rattle.std.specs.Prelude.{◌≡◌, ℕ, ◌≤◌, true, List, length}
 use Rattle.image.specs.Image.{head_size, back_size, back_in}
 use Rattle.image.specs.Stored.{whole, between}
 use Rattle.image.specs.declared.Mode.{Mode}

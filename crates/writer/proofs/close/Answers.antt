@@ -2,22 +2,19 @@
 use Rattle.writer.specs.State.{state_with}
 use Rattle.writer.proofs.Closes.{refused, written}
 use mathlib.Core.Path.{sym, ◌∙◌}
-use borrow.Author.Rules.{rules}
-use Rattle.writer.proofs.close.Reads as reads
-use Rattle.writer.proofs.close.Lts as lts
-use Rattle.writer.proofs.close_refusal.Reads as close-refusal-reads
-use Rattle.writer.proofs.write_closed.Reads as write-closed-reads
 use Rattle.writer.proofs.close.Goals as goal
 
 pub returns-then-refusal-ne0 : goal.returns-then-refusal-ne0
 returns-then-refusal-ne0 c =
     let a = c.args in
-    refused (state_with a.w a.counts.now a.buf.now) c.close_refusal-refusal.result c.close_refusal-refusal.ensures c.if-refusal-ne0.true
+    let t = refused (state_with a.w a.counts.now a.buf.now) c.close_refusal-refusal.result c.close_refusal-refusal.ensures c.if-refusal-ne0.true in
+    record { answer = t.0; leaves = t.1 }
 
 pub returns : goal.returns
 returns c =
     let a = c.args in
     let done = c.write_closed-size.ensures in
-    written (state_with a.w a.counts.now a.buf.now) c.write_closed-size.result _
+    let t = written (state_with a.w a.counts.now a.buf.now) c.write_closed-size.result _
     (sym c.close_refusal-refusal.ensures ∙ c.if-refusal-ne0.false)
-    done.gives done.leaves
+    done.gives done.leaves in
+    record { answer = t.0; leaves = t.1 }

@@ -2,16 +2,14 @@
 use native.Mathlib.Omega.{arith}
 use mathlib.Core.Path.{◌≡◌, sym, ap, ◌∙◌}
 use mathlib.Core.Bool.{true}
-use borrow.Author.Tests.{not-true, not-false}
-use Rattle.writer.specs.State.{State, state_with, fits, too_large, finished_size}
+use Rattle.writer.specs.State.{state_with, fits, too_large, finished_size}
 use Rattle.writer.proofs.Fits.{fitting, end_inside}
 use Rattle.writer.proofs.Closes.{due_unfit, due_big, due_differs, due_none}
-use borrow.Author.Rules.{rules}
 use Rattle.writer.proofs.close_refusal.Goals.{After-too_large, Else-not-fits}
 use Rattle.writer.proofs.close_refusal.Goals as goal
 
 fitted : (c : Else-not-fits) → fits (state_with c.args.w c.args.counts.now c.args.buf.now) ≡ true
-fitted c = sym c.fits2.ensures ∙ c.if-not-fits.false
+fitted c = sym c.fits.ensures ∙ c.if-not-fits.false
 
 -- the size, as the second check reads it
 sized : (c : After-too_large) → let w = c.args.w in too_large w.length (finished_size w) ≡ c.too_large.result
@@ -38,7 +36,7 @@ returns c =
     (sym c.agrees.ensures ∙ c.if-not-agrees.false)
 
 pub returns-then-not-fits : goal.returns-then-not-fits
-returns-then-not-fits c = due_unfit (state_with c.args.w c.args.counts.now c.args.buf.now) (sym c.fits2.ensures ∙ c.if-not-fits.true)
+returns-then-not-fits c = due_unfit (state_with c.args.w c.args.counts.now c.args.buf.now) (sym c.fits.ensures ∙ c.if-not-fits.true)
 
 pub returns-then-too_large : goal.returns-then-too_large
 returns-then-too_large c = due_big (state_with c.args.w c.args.counts.now c.args.buf.now) (fitted (goal.at.returns-then-too_large c).Else-not-fits) (sized (goal.at.returns-then-too_large c).After-too_large ∙ c.if-too_large.true)

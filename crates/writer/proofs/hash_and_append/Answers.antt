@@ -2,14 +2,13 @@
 use Prim.Native.Nat.{◌<◌}
 use native.Mathlib.Omega.{arith}
 use native.Mathlib.Decide.{dec_lt}
-use mathlib.Core.Path.{◌≡◌, sym, ◌∙◌}
+use mathlib.Core.Path.{sym, ◌∙◌}
 use lib.ListN.{length}
 use Rattle.image.proofs.Bools.{false_not_true}
 use Rattle.jhash.proofs.Outcomes.{result_refused, result_name_hash}
-use Rattle.writer.specs.State.{State, state_with}
+use Rattle.writer.specs.State.{state_with}
 use Rattle.writer.specs.Put.{entry_of, writer_after_entry}
 use Rattle.writer.proofs.Puts.{Passed, passed, long_name, count_small, entry_fits, size_small}
-use borrow.Author.Rules.{rules}
 use Rattle.writer.proofs.hash_and_append.Goals.{Start}
 use Rattle.writer.proofs.hash_and_append.Goals as goal
 

@@ -3,7 +3,6 @@ use mathlib.Core.Path.{sym, ◌∙◌}
 use Rattle.writer.specs.State.{state_with}
 use Rattle.writer.specs.Put.{entry_of}
 use Rattle.writer.proofs.Puts.{refused_leaves, accepted_leaves}
-use borrow.Author.Rules.{rules}
 use Rattle.writer.proofs.put.Goals as goal
 
 -- ---- the needs
@@ -12,7 +11,7 @@ returns-then-refusal-ne0 c =
     let a = c.args in
     let s = state_with a.w a.counts.now a.buf.now in
     let e = entry_of a.name.now a.id in
-    (c.put_refusal-refusal.ensures, refused_leaves s e c.put_refusal-refusal.result c.put_refusal-refusal.ensures c.if-refusal-ne0.true)
+    record { answer = c.put_refusal-refusal.ensures; leaves = refused_leaves s e c.put_refusal-refusal.result c.put_refusal-refusal.ensures c.if-refusal-ne0.true }
 
 pub returns : goal.returns
 returns c =
@@ -20,4 +19,4 @@ returns c =
     let s = state_with a.w a.counts.now a.buf.now in
     let e = entry_of a.name.now a.id in
     let none = sym c.put_refusal-refusal.ensures ∙ c.if-refusal-ne0.false in
-    (sym none, c.hash_and_append-writer.ensures ∙ accepted_leaves s e none)
+    record { answer = sym none; leaves = c.hash_and_append-writer.ensures ∙ accepted_leaves s e none }

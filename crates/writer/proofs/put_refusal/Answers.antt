@@ -2,21 +2,18 @@
 use native.Mathlib.Omega.{arith}
 use mathlib.Core.Path.{◌≡◌, sym, ap, ◌∙◌}
 use mathlib.Core.Bool.{true, false}
-use Rattle.image.specs.Image.{Entry}
 use lib.ListN.{length}
-use borrow.Author.Tests.{not-true, not-false}
 use Rattle.image.specs.Zero.{has_zero}
-use Rattle.writer.specs.State.{State, state_with, fits, finished_size, too_large}
+use Rattle.writer.specs.State.{state_with, fits, finished_size, too_large}
 use Rattle.writer.specs.Put.{entry_of, writer_after_put, writer_after_entry}
 use Rattle.writer.specs.Steps.Earlier.{earlier_refusal}
 use Rattle.writer.proofs.Fits.{fitting, end_inside}
 use Rattle.writer.proofs.Puts.{refuses_unfit, refuses_zero, refuses_earlier, refuses_full, accepts, long_name}
-use borrow.Author.Rules.{rules}
 use Rattle.writer.proofs.put_refusal.Goals.{After-too_large, Else-earlier-ne0, Else-has_zero, Else-not-fits}
 use Rattle.writer.proofs.put_refusal.Goals as goal
 
 fitted : (c : Else-not-fits) → fits (state_with c.args.w c.args.counts.now c.args.buf.now) ≡ true
-fitted c = sym c.fits2.ensures ∙ c.if-not-fits.false
+fitted c = sym c.fits.ensures ∙ c.if-not-fits.false
 
 zero_free : (c : Else-has_zero) → has_zero c.args.name.now ≡ false
 zero_free c = sym c.has_zero.ensures ∙ c.if-has_zero.false
@@ -25,7 +22,7 @@ none_due : (c : Else-earlier-ne0) → earlier_refusal (state_with c.args.w c.arg
 none_due c = sym c.earlier_refusal-earlier.ensures ∙ c.if-earlier-ne0.false
 
 pub returns-then-not-fits : goal.returns-then-not-fits
-returns-then-not-fits c = refuses_unfit (state_with c.args.w c.args.counts.now c.args.buf.now) (entry_of c.args.name.now c.args.id) (sym c.fits2.ensures ∙ c.if-not-fits.true)
+returns-then-not-fits c = refuses_unfit (state_with c.args.w c.args.counts.now c.args.buf.now) (entry_of c.args.name.now c.args.id) (sym c.fits.ensures ∙ c.if-not-fits.true)
 
 pub returns-then-has_zero : goal.returns-then-has_zero
 returns-then-has_zero c =

@@ -1,7 +1,6 @@
 -- `writer::write_closed` meets its contract. Assumes nothing.
 use native.Mathlib.Omega.{arith}
 use mathlib.Core.Path.{ap}
-use borrow.Author.Rules.{rules}
 use Rattle.writer.specs.State.{State, state_with}
 use Rattle.writer.proofs.Accepted.{stands, closes_image}
 use Rattle.writer.proofs.Closes.{accepted}

@@ -1,9 +1,6 @@
 -- `serialize::counts::each_at_most` meets its contract. Assumes nothing.
-use Rattle.std.proofs.Common.{◌≡◌, ℕ, ◌-◌, ◌<◌, ◌≤◌, Bool, ◌&&◌, leb, List, get_or, refl, arith}
-use Rattle.serialize.specs.Record.{none_above}
-use Rattle.image.specs.Bytes.{all}
+use Rattle.std.proofs.Common.{◌≡◌, ℕ, ◌-◌, ◌<◌, leb, get_or, refl, arith}
 use Rattle.image.proofs.AllOfRange.{all_more, all_end}
-use Rattle.serialize.proofs.counts.each_at_most.Invariants.{Inv}
 use Rattle.serialize.proofs.counts.each_at_most.Goals as goal
 
 pub loop-t-preserved : goal.loop-t-preserved
@@ -19,7 +16,7 @@ pub returns : goal.returns
 returns c =
     let z : 256 - c.loop-t.t ≡ 0 = omega arith in
     all_end (λ (k : ℕ). leb (get_or c.args.counts.now k 0) c.args.entries) c.loop-t.t _ _
-    (rw z at c.loop-t.invariant.false)
+    (rw z at c.loop-t.invariant.left)
 
 pub loop-t-init : goal.loop-t-init
 loop-t-init c = record { inside = omega arith; left = refl }

@@ -1,8 +1,7 @@
 -- `serialize::counts::each_at_most` meets its contract. Assumes nothing.
-use Rattle.std.proofs.Common.{◌≡◌, ℕ, ◌-◌, ◌<◌, ◌≤◌, Bool, ◌&&◌, leb, List, get_or, refl, arith}
+use Rattle.std.proofs.Common.{◌≡◌, ℕ, ◌-◌, ◌≤◌, Bool, ◌&&◌, leb, List, get_or}
 use Rattle.serialize.specs.Record.{none_above}
 use Rattle.image.specs.Bytes.{all}
-use Rattle.image.proofs.AllOfRange.{all_more, all_end}
 use Rattle.serialize.proofs.counts.each_at_most.Given as goal
 
 -- the loop's invariant: the answer so far, and the counts that are left, decide

@@ -1,5 +1,4 @@
 -- `serialize::counts::none_above` meets its contract. Assumes nothing.
-use Rattle.std.proofs.Common.{rules}
 use Rattle.serialize.proofs.OrAll.{bounded}
 use Rattle.serialize.proofs.counts.none_above.Goals as goal
 

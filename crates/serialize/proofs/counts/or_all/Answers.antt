@@ -1,7 +1,6 @@
 -- `serialize::counts::or_all` meets its contract. Assumes nothing.
-use Rattle.std.proofs.Common.{ℕ, ◌-◌, ◌<◌, ◌≤◌, List, get_or, arith}
+use Rattle.std.proofs.Common.{arith}
 use Rattle.serialize.proofs.OrAll.{or_more}
-use Rattle.serialize.proofs.counts.or_all.Invariants.{Inv}
 use Rattle.serialize.proofs.counts.or_all.Goals as goal
 
 pub loop-t-preserved : goal.loop-t-preserved

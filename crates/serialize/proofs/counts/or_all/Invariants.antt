@@ -1,6 +1,5 @@
 -- `serialize::counts::or_all` meets its contract. Assumes nothing.
-use Rattle.std.proofs.Common.{ℕ, ◌-◌, ◌<◌, ◌≤◌, List, get_or, arith}
-use Rattle.serialize.proofs.OrAll.{or_more}
+use Rattle.std.proofs.Common.{ℕ, ◌-◌, ◌<◌, ◌≤◌, List, get_or}
 use Rattle.serialize.proofs.counts.or_all.Given as goal
 
 -- the loop's invariant: no count that was read exceeds the bits so far

@@ -1,8 +1,6 @@
 -- `serialize::head::clear_bytes` meets its contract. Assumes nothing.
-use Rattle.std.proofs.Common.{◌≡◌, ℕ, ◌-◌, ◌≤◌, List, length, replicate, refl, arith, length-set, rules}
-use lib.Seq.{sets}
+use Rattle.std.proofs.Common.{refl, arith, length-set}
 use Rattle.serialize.proofs.HeadStores.{zero_step, zero_end}
-use Rattle.serialize.proofs.head.clear_bytes.Invariants.{Clearing}
 use Rattle.serialize.proofs.head.clear_bytes.Goals as goal
 
 pub loop-i-preserved : goal.loop-i-preserved

@@ -1,7 +1,6 @@
 -- `serialize::head::clear_bytes` meets its contract. Assumes nothing.
-use Rattle.std.proofs.Common.{◌≡◌, ℕ, ◌-◌, ◌≤◌, List, length, replicate, refl, arith, length-set, rules}
+use Rattle.std.proofs.Common.{◌≡◌, ℕ, ◌-◌, ◌≤◌, List, length, replicate}
 use lib.Seq.{sets}
-use Rattle.serialize.proofs.HeadStores.{zero_step, zero_end}
 use Rattle.serialize.proofs.head.clear_bytes.Given as goal
 
 -- the zeros from i on, stored in this buffer, leave what all zeros leave

@@ -1,11 +1,7 @@
 -- `serialize::head::write_rows` meets its contract. Assumes nothing.
-use Rattle.std.proofs.Common.{◌≡◌, ℕ, ◌+◌, ◌-◌, ◌*◌, ◌≤◌, List, length, refl, ◌∙◌, arith, rules}
-use lib.Seq.{sets}
-use Rattle.serialize.specs.Steps.Partition.{table_offsets_from}
-use Rattle.serialize.specs.Steps.Written.{rows_from_lem}
+use Rattle.std.proofs.Common.{◌≡◌, ◌+◌, ◌-◌, ◌*◌, ◌≤◌, length, refl, ◌∙◌, arith}
 use Rattle.serialize.proofs.HeadStores.{rows_step, rows_end}
 use Rattle.serialize.proofs.PartitionSteps.{table_offsets_step, table_offsets_end}
-use Rattle.serialize.proofs.head.write_rows.Invariants.{Storing}
 use Rattle.serialize.proofs.head.write_rows.Goals.{In-loop-t}
 use Rattle.serialize.proofs.head.write_rows.Goals as goal
 
@@ -24,10 +20,10 @@ loop-t-preserved c =
     let is = c.as_u64-count.ensures.is in
     record {
       most = omega (arith, less);
-      long = c.store_word-in-loop-t.auto.0 ∙ c.Store-word.kept.0 ∙ c.loop-t.invariant.long;
+      long = c.store_word-in-loop-t.auto.buf ∙ c.store_word.auto.buf ∙ c.loop-t.invariant.long;
       rows =
           rows_step counts c.loop-t.buf _ c.loop-t.o c.loop-t.t 256 less is c.offset_or_zero.ensures c.low.ensures c.low-in-loop-t.ensures
-          c.Store-word.ensures c.store_word-in-loop-t.ensures c.loop-t.invariant.rows;
+          c.store_word.ensures c.store_word-in-loop-t.ensures c.loop-t.invariant.rows;
       begins = table_offsets_step counts c.loop-t.places _ c.loop-t.o c.loop-t.t 256 c.low-in-loop-t-2.result c.as_u64-count.result less c.low-in-loop-t-2.ensures is c.loop-t.invariant.begins;
       near = omega (arith, c.as_u64-count.ensures.small, c.loop-t.invariant.near);
     }
@@ -69,7 +65,7 @@ pub overflow_mul-count : goal.overflow_mul-count
 overflow_mul-count c = omega (arith, c.as_u64-count.ensures.small)
 
 pub store_word-requires-in-loop-t : goal.store_word-requires-in-loop-t
-store_word-requires-in-loop-t c = omega (arith, inside (goal.at.store_word-requires-in-loop-t c).In-loop-t, c.Store-word.auto.0)
+store_word-requires-in-loop-t c = omega (arith, inside (goal.at.store_word-requires-in-loop-t c).In-loop-t, c.store_word.auto.buf)
 
 pub offset_bounds-places-t : goal.offset_bounds-places-t
 offset_bounds-places-t c = omega arith

@@ -1,10 +1,8 @@
 -- `serialize::head::write_rows` meets its contract. Assumes nothing.
-use Rattle.std.proofs.Common.{◌≡◌, ℕ, ◌+◌, ◌-◌, ◌*◌, ◌≤◌, List, length, refl, ◌∙◌, arith, rules}
+use Rattle.std.proofs.Common.{◌≡◌, ℕ, ◌+◌, ◌-◌, ◌*◌, ◌≤◌, List, length}
 use lib.Seq.{sets}
 use Rattle.serialize.specs.Steps.Partition.{table_offsets_from}
 use Rattle.serialize.specs.Steps.Written.{rows_from_lem}
-use Rattle.serialize.proofs.HeadStores.{rows_step, rows_end}
-use Rattle.serialize.proofs.PartitionSteps.{table_offsets_step, table_offsets_end}
 use Rattle.serialize.proofs.head.write_rows.Given as goal
 
 -- the rows from table t on, stored in this buffer, leave what all rows leave, and so do the places

@@ -1,5 +1,5 @@
 -- `serialize::insert::entry_hash` meets its contract. Assumes nothing.
-use Rattle.std.proofs.Common.{ap, ◌∙◌, arith, rules}
+use Rattle.std.proofs.Common.{ap, ◌∙◌, arith}
 use Rattle.jhash.specs.NameHash.{hash_of}
 use Rattle.jhash.proofs.Outcomes.{hash_or_zero_short}
 use Rattle.serialize.specs.Steps.Insertion.{entry_hash}

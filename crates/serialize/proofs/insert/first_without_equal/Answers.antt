@@ -1,6 +1,6 @@
 -- `serialize::insert::first_without_equal` meets its contract. The loop's invariant: the probe sequence that is left tells what the whole one tells,
 -- whatever the names. Assumes nothing.
-use Rattle.std.proofs.Common.{ℕ, ◌+◌, ◌*◌, ◌≤◌, Bool, true, length, sym, ◌∙◌, subst, arith, rules}
+use Rattle.std.proofs.Common.{◌+◌, ◌*◌, ◌≤◌, true, length, sym, ◌∙◌, subst, arith}
 use Rattle.lookup_laws.proofs.SlotSearch.{Remaining, remaining_start, remaining_step, first_empty_lem, none_matches}
 use Rattle.serialize.specs.Steps.Meeting.{bucket_at}
 use Rattle.serialize.proofs.insert.first_without_equal.Goals.{At-loop-left}
@@ -51,10 +51,10 @@ pub word-other-requires : goal.word-other-requires
 word-other-requires c = omega (arith, inside (goal.at.word-other-requires c).At-loop-left)
 
 pub returns-then-other-h : goal.returns-then-other-h
-returns-then-other-h c = absurd (omega arith)
+returns-then-other-h c = λ end at below. absurd (omega arith)
 
 pub next-k-requires : goal.next-k-requires
 next-k-requires c = (c.loop-left.invariant (λ x. true)).inside
 
 pub returns : goal.returns
-returns c = absurd (omega arith)
+returns c = λ end at below. absurd (omega arith)

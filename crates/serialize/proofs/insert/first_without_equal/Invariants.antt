@@ -1,7 +1,7 @@
 -- `serialize::insert::first_without_equal` meets its contract. The loop's invariant: the probe sequence that is left tells what the whole one tells,
 -- whatever the names. Assumes nothing.
-use Rattle.std.proofs.Common.{ℕ, ◌+◌, ◌*◌, ◌≤◌, Bool, true, length, sym, ◌∙◌, subst, arith, rules}
-use Rattle.lookup_laws.proofs.SlotSearch.{Remaining, remaining_start, remaining_step, first_empty_lem, none_matches}
+use Rattle.std.proofs.Common.{ℕ, Bool}
+use Rattle.lookup_laws.proofs.SlotSearch.{Remaining}
 use Rattle.serialize.specs.Steps.Meeting.{bucket_at}
 use Rattle.serialize.proofs.insert.first_without_equal.Given as goal
 

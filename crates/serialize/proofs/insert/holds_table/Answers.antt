@@ -1,5 +1,5 @@
 -- `serialize::insert::holds_table` meets its contract. Assumes nothing.
-use Rattle.std.proofs.Common.{rules, le-leb}
+use Rattle.std.proofs.Common.{le-leb}
 use borrow.Author.Tests.{lt-leb}
 use Rattle.serialize.proofs.insert.holds_table.Goals as goal
 

@@ -1,7 +1,7 @@
 -- `serialize::insert::insert_entries` meets its contract. Assumes nothing.
-use Rattle.std.proofs.Common.{◌+◌, ◌<◌, ◌≤◌, refl, arith, rules}
+use Rattle.std.proofs.Common.{◌+◌, ◌<◌, ◌≤◌, refl, arith}
 use Rattle.serialize.specs.Steps.Insertion.{EntryPre}
-use Rattle.serialize.proofs.Insertion.{not_met, stopped, entry_in, Inserting, inserted_broken, inserted_step, inserted_all}
+use Rattle.serialize.proofs.Insertion.{not_met, stopped, entry_in, inserted_broken, inserted_step, inserted_all}
 use Rattle.serialize.proofs.insert.insert_entries.Goals.{After-insert_entry-one, Else-n-eq0}
 use Rattle.serialize.proofs.insert.insert_entries.Goals as goal
 
@@ -32,17 +32,21 @@ insert_entry-one-requires c =
 
 -- the place behind it is a word
 next_word : (c : After-insert_entry-one) → c.loop-left.at + (8 + c.whole_length-n.result) < 4294967296
-next_word c = omega (arith, (let the-entry : let n = c.whole_length-n.result in
-    (c.loop-left.at + (8 + n) ≤ c.args.end) × EntryPre c.loop-left.at n c.loop-left.buf = let n = c.whole_length-n in
-    entry_in c.requires c.loop-left.buf c.loop-left.invariant.long c.loop-left.at n.result c.loop-left.invariant.inside n.ensures.is
-    n.ensures.small c.if-n-eq0.false in the-entry).0, c.requires.end_word)
+next_word c = omega (
+  arith,
+  (let the-entry : let n = c.whole_length-n.result in
+      (c.loop-left.at + (8 + n) ≤ c.args.end) × EntryPre c.loop-left.at n c.loop-left.buf = let n = c.whole_length-n in
+      entry_in c.requires c.loop-left.buf c.loop-left.invariant.long c.loop-left.at n.result c.loop-left.invariant.inside n.ensures.is
+      n.ensures.small c.if-n-eq0.false in the-entry).0,
+  c.requires.end_word,
+)
 
 pub loop-left-preserved : goal.loop-left-preserved
 loop-left-preserved c =
     let done = c.insert_entry-one in
     inserted_step c.loop-left.invariant c.loop-left-test.true c.whole_length-n.ensures.is
     c.if-n-eq0.false
-    (entry (goal.at.loop-left-preserved c).Else-n-eq0).0 done.new.buf done.auto.1.1.0 done.ensures
+    (entry (goal.at.loop-left-preserved c).Else-n-eq0).0 done.new.buf done.auto.buf done.ensures
 
 pub loop-left-init : goal.loop-left-init
 loop-left-init c = record { inside = c.requires.low; long = refl; leaves = refl; unmet = λ z rest. rest }

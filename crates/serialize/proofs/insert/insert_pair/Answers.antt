@@ -1,5 +1,5 @@
 -- `serialize::insert::insert_pair` meets its contract. Assumes nothing.
-use Rattle.std.proofs.Common.{arith, rules}
+use Rattle.std.proofs.Common.{arith}
 use Rattle.serialize.proofs.Insertion.{pair_inserted}
 use Rattle.serialize.proofs.insert.insert_pair.Goals as goal
 

@@ -1,9 +1,9 @@
 -- `serialize::insert::probe` meets its contract. The loop's invariant: the probe sequence that is left tells what the whole one tells. Assumes nothing.
-use Rattle.std.proofs.Common.{◌≡◌, ℕ, ◌+◌, ◌*◌, ◌≤◌, false, length, take, sym, ◌∙◌, subst, ⊎_elim, arith, length-take, rules}
+use Rattle.std.proofs.Common.{◌≡◌, ℕ, ◌+◌, ◌*◌, ◌≤◌, false, length, take, sym, ◌∙◌, subst, arith, length-take}
 use Rattle.lookup_laws.proofs.SlotSearch.{Remaining, remaining_start, remaining_step, first_empty_lem, none_matches}
 use Rattle.serialize.specs.Steps.Meeting.{bucket_at, same_names}
 use Rattle.serialize.proofs.Insertion.{restarted}
-use Rattle.serialize.proofs.insert.probe.Goals.{At-loop-left}
+use Rattle.serialize.proofs.insert.probe.Goals.{At-loop-left, then-word-h+else-same_names, else-word-h}
 use Rattle.serialize.proofs.insert.probe.Goals as goal
 
 -- ---- the needs
@@ -30,7 +30,7 @@ returns-then-a-eq0 c =
 pub returns-then-same_names : goal.returns-then-same_names
 returns-then-same_names c =
     let a = c.args in
-    restarted a.buf.now a.end a.o a.n a.h a.at _ _ c.start-first.ensures c.first_empty_lem.ensures
+    restarted a.buf.now a.end a.o a.n a.h a.at _ _ c.start-first.ensures c.first_empty.ensures
 
 pub loop-left-preserved : goal.loop-left-preserved
 loop-left-preserved c =
@@ -39,10 +39,10 @@ loop-left-preserved c =
     let v = same_names (take a.end a.buf.now) a.at in
     let is = c.word-a.ensures in
     let other : (b c.loop-left.k).hash ≡ a.h → v (b c.loop-left.k).at ≡ false = λ p.
-    ⊎_elim
-    (λ w. subst (λ (x : ℕ). v x ≡ false) is (w.2.ensures w.3.left))
-    (λ w. absurd (w.left (c.word.ensures ∙ p)))
-    c.if-word-h.branch in
+    elim c.if-word-h.branch [
+      | then-word-h+else-same_names w ↦ subst (λ (x : ℕ). v x ≡ false) is (w.same_names.ensures w.if-same_names.false)
+      | else-word-h w ↦ absurd (w.if-word-h.false (c.word.ensures ∙ p))
+    ] in
     let full : (b c.loop-left.k).at ≡ 0 → ⊥ = λ z. c.if-a-eq0.false (is ∙ z) in
     remaining_step c.loop-left.invariant c.loop-left-test.true full other c.next-k.result c.next-k.ensures.is c.next-k.ensures.inside
 

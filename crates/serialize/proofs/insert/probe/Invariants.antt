@@ -1,8 +1,7 @@
 -- `serialize::insert::probe` meets its contract. The loop's invariant: the probe sequence that is left tells what the whole one tells. Assumes nothing.
-use Rattle.std.proofs.Common.{◌≡◌, ℕ, ◌+◌, ◌*◌, ◌≤◌, false, length, take, sym, ◌∙◌, subst, ⊎_elim, arith, length-take, rules}
-use Rattle.lookup_laws.proofs.SlotSearch.{Remaining, remaining_start, remaining_step, first_empty_lem, none_matches}
+use Rattle.std.proofs.Common.{take}
+use Rattle.lookup_laws.proofs.SlotSearch.{Remaining}
 use Rattle.serialize.specs.Steps.Meeting.{bucket_at, same_names}
-use Rattle.serialize.proofs.Insertion.{restarted}
 use Rattle.serialize.proofs.insert.probe.Given as goal
 
 abbrev pub invariant-loop-left : goal.invariant-loop-left

@@ -1,5 +1,5 @@
 -- `serialize::insert::same_names` meets its contract. Assumes nothing.
-use Rattle.std.proofs.Common.{length, sym, ◌∙◌, ap₂, arith, rules}
+use Rattle.std.proofs.Common.{length, sym, ◌∙◌, ap₂, arith}
 use Rattle.image.specs.Bytes.{same}
 use Rattle.image.proofs.Between.{entry_room}
 use Rattle.serialize.proofs.Insertion.{name_in_read, not_met}

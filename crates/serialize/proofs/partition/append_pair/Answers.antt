@@ -1,6 +1,5 @@
 -- `serialize::partition::append_pair` meets its contract. Assumes nothing.
 use Rattle.serialize.proofs.PartitionSteps.{pair_appended}
-use Rattle.std.proofs.Common.{rules}
 use Rattle.serialize.proofs.partition.append_pair.Goals as goal
 
 pub returns : goal.returns

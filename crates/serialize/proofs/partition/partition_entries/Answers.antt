@@ -1,8 +1,8 @@
 -- `serialize::partition::partition_entries` meets its contract. Assumes nothing.
-use Rattle.std.proofs.Common.{◌+◌, ◌<◌, ◌≤◌, refl, arith, rules}
+use Rattle.std.proofs.Common.{◌+◌, ◌<◌, ◌≤◌, refl, arith}
 use Rattle.serialize.specs.Steps.Insertion.{EntryPre}
 use Rattle.serialize.proofs.Insertion.{entry_in}
-use Rattle.serialize.proofs.PartitionSteps.{Partitioning, partitioned_broken, partitioned_step, partitioned_all}
+use Rattle.serialize.proofs.PartitionSteps.{partitioned_broken, partitioned_step, partitioned_all}
 use Rattle.serialize.proofs.partition.partition_entries.Goals.{After-partition_entry, Else-n-eq0}
 use Rattle.serialize.proofs.partition.partition_entries.Goals as goal
 
@@ -20,15 +20,19 @@ returns-then-n-eq0 c =
 
 -- the place behind it is a word
 next_word : (c : After-partition_entry) → c.loop-left.at + (8 + c.whole_length-n.result) < 4294967296
-next_word c = omega (arith, (let the-entry : let n = c.whole_length-n.result in
-    (c.loop-left.at + (8 + n) ≤ c.args.end) × EntryPre c.loop-left.at n c.loop-left.buf = let n = c.whole_length-n in
-    entry_in c.requires c.loop-left.buf c.loop-left.invariant.long c.loop-left.at n.result c.loop-left.invariant.inside n.ensures.is n.ensures.small c.if-n-eq0.false in the-entry).0, c.requires.end_word)
+next_word c = omega (
+  arith,
+  (let the-entry : let n = c.whole_length-n.result in
+      (c.loop-left.at + (8 + n) ≤ c.args.end) × EntryPre c.loop-left.at n c.loop-left.buf = let n = c.whole_length-n in
+      entry_in c.requires c.loop-left.buf c.loop-left.invariant.long c.loop-left.at n.result c.loop-left.invariant.inside n.ensures.is n.ensures.small c.if-n-eq0.false in the-entry).0,
+  c.requires.end_word,
+)
 
 pub loop-left-preserved : goal.loop-left-preserved
 loop-left-preserved c =
     let done = c.partition_entry in
     partitioned_step c.loop-left.invariant c.loop-left-test.true c.whole_length-n.ensures.is c.if-n-eq0.false
-    (entry (goal.at.loop-left-preserved c).Else-n-eq0).0 done.new.places done.new.buf done.auto.1.1.0 c.word_or_zero-id.ensures c.entry_hash-h.ensures
+    (entry (goal.at.loop-left-preserved c).Else-n-eq0).0 done.new.places done.new.buf done.auto.buf c.word_or_zero-id.ensures c.entry_hash-h.ensures
     done.ensures
 
 pub loop-left-init : goal.loop-left-init

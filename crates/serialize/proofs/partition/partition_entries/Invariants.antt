@@ -1,8 +1,5 @@
 -- `serialize::partition::partition_entries` meets its contract. Assumes nothing.
-use Rattle.std.proofs.Common.{◌+◌, ◌<◌, ◌≤◌, refl, arith, rules}
-use Rattle.serialize.specs.Steps.Insertion.{EntryPre}
-use Rattle.serialize.proofs.Insertion.{entry_in}
-use Rattle.serialize.proofs.PartitionSteps.{Partitioning, partitioned_broken, partitioned_step, partitioned_all}
+use Rattle.serialize.proofs.PartitionSteps.{Partitioning}
 use Rattle.serialize.proofs.partition.partition_entries.Given as goal
 
 abbrev pub invariant-loop-left : goal.invariant-loop-left

@@ -1,5 +1,4 @@
 -- `serialize::partition::put_pair` meets its contract. Assumes nothing.
-use Rattle.std.proofs.Common.{rules}
 use Rattle.serialize.proofs.PartitionSteps.{pair_put_lem, pair_left}
 use Rattle.serialize.proofs.partition.put_pair.Goals as goal
 

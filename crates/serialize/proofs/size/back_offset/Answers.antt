@@ -1,6 +1,5 @@
 -- `serialize::size::back_offset` meets its contract. Assumes nothing.
 use Rattle.serialize.proofs.WriteSteps.{back_offset_none, back_offset_some}
-use Rattle.std.proofs.Common.{rules}
 use Rattle.serialize.proofs.size.back_offset.Goals as goal
 
 pub returns-then-back_in-eq0 : goal.returns-then-back_in-eq0

@@ -1,5 +1,5 @@
 -- `serialize::size::finished_size` meets its contract. Assumes nothing.
-use Rattle.std.proofs.Common.{arith, rules}
+use Rattle.std.proofs.Common.{arith}
 use Rattle.serialize.proofs.WriteSteps.{back_in_le}
 use Rattle.serialize.proofs.size.finished_size.Goals as goal
 

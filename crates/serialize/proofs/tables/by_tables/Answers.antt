@@ -1,5 +1,4 @@
 -- `serialize::tables::by_tables` meets its contract. Assumes nothing.
-use Rattle.std.proofs.Common.{rules}
 use Rattle.serialize.proofs.WriteSteps.{by_tables_few, by_tables_many}
 use Rattle.serialize.proofs.tables.by_tables.Goals as goal
 

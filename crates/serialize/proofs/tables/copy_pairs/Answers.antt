@@ -1,8 +1,7 @@
 -- `serialize::tables::copy_pairs` meets its contract. Assumes nothing.
-use Rattle.std.proofs.Common.{◌≡◌, ℕ, ◌+◌, ◌-◌, ◌*◌, ◌≤◌, List, length, set, refl, ◌∙◌, subst, arith, length-set, rules}
+use Rattle.std.proofs.Common.{◌≡◌, ◌+◌, ◌*◌, ◌≤◌, length, set, refl, ◌∙◌, subst, arith, length-set}
 use Rattle.serialize.specs.Steps.Partition.{PairsCopied}
 use Rattle.serialize.proofs.TableFill.{copy_step}
-use Rattle.serialize.proofs.tables.copy_pairs.Invariants.{Copying}
 use Rattle.serialize.proofs.tables.copy_pairs.Goals.{At-loop-i}
 use Rattle.serialize.proofs.tables.copy_pairs.Goals as goal
 

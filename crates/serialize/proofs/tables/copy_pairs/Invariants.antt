@@ -1,7 +1,6 @@
 -- `serialize::tables::copy_pairs` meets its contract. Assumes nothing.
-use Rattle.std.proofs.Common.{◌≡◌, ℕ, ◌+◌, ◌-◌, ◌*◌, ◌≤◌, List, length, set, refl, ◌∙◌, subst, arith, length-set, rules}
+use Rattle.std.proofs.Common.{◌≡◌, ℕ, ◌-◌, ◌≤◌, List, length}
 use Rattle.serialize.specs.Steps.Partition.{PairsCopied}
-use Rattle.serialize.proofs.TableFill.{copy_step}
 use Rattle.serialize.proofs.tables.copy_pairs.Given as goal
 
 pub record Copying (copy₀ buf : List ℕ) (o c : ℕ) (copy : List ℕ) (i : ℕ) : Type 0 where

@@ -1,5 +1,5 @@
 -- `serialize::tables::fill_all` meets its contract. Assumes nothing.
-use Rattle.std.proofs.Common.{ℕ, sym, ◌∙◌, inl, inr, arith, rules}
+use Rattle.std.proofs.Common.{ℕ, sym, ◌∙◌, inl, inr, arith}
 use lib.ListN.{length-replicate}
 use Rattle.serialize.proofs.OrAll.{each_within}
 use Rattle.serialize.proofs.tables.fill_all.Goals as goal

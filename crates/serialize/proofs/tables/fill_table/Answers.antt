@@ -1,5 +1,5 @@
 -- `serialize::tables::fill_table` meets its contract. Assumes nothing.
-use Rattle.std.proofs.Common.{arith, rules}
+use Rattle.std.proofs.Common.{arith}
 use Rattle.serialize.proofs.TableFill.{table_none, table_left, table_filled_lem}
 use Rattle.serialize.proofs.tables.fill_table.Goals as goal
 

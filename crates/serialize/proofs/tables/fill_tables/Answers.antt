@@ -1,11 +1,10 @@
 -- `serialize::tables::fill_tables` meets its contract. Assumes nothing.
-use Rattle.std.proofs.Common.{◌≡◌, ℕ, ◌+◌, ◌-◌, ◌*◌, ◌≤◌, Bool, false, List, length, take, sym, refl, ap, ◌∙◌, subst, arith, rules}
+use Rattle.std.proofs.Common.{◌≡◌, ℕ, ◌-◌, List, take, sym, refl, ap, ◌∙◌, subst, arith}
 use Rattle.image.proofs.Bools.{or_false_first, or_false_second}
-use Rattle.serialize.specs.Steps.Partition.{pairs_stored, tables_from}
+use Rattle.serialize.specs.Steps.Partition.{pairs_stored}
 use Rattle.serialize.specs.Steps.Meeting.{Apart, TablesApart}
 use Rattle.serialize.proofs.Insertion.{not_met, stopped}
 use Rattle.serialize.proofs.PartitionSteps.{tables_step, front_kept, apart_next, tables_end}
-use Rattle.serialize.proofs.tables.fill_tables.Invariants.{Filling}
 use Rattle.serialize.proofs.tables.fill_tables.Goals as goal
 
 -- ---- the needs
@@ -44,8 +43,8 @@ loop-t-preserved c =
     let leaves = done.ensures.leaves c.if-stop-one.false in
     record {
       most = omega (arith, less);
-      long = done.auto.0 ∙ c.loop-t.invariant.long;
-      copy_long = done.auto.1.1.1.1.0 ∙ c.loop-t.invariant.copy_long;
+      long = done.auto.buf ∙ c.loop-t.invariant.long;
+      copy_long = done.auto.copy ∙ c.loop-t.invariant.copy_long;
       leaves = tables_step a.counts.now c.loop-t.buf _ c.loop-t.o c.loop-t.t 256 c.as_u64-c.result less c.as_u64-c.ensures.is leaves c.loop-t.invariant.leaves;
       near = omega (arith, c.as_u64-c.ensures.small, c.loop-t.invariant.near);
       behind = omega (arith, c.loop-t.invariant.behind);

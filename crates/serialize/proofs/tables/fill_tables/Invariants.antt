@@ -1,10 +1,7 @@
 -- `serialize::tables::fill_tables` meets its contract. Assumes nothing.
-use Rattle.std.proofs.Common.{◌≡◌, ℕ, ◌+◌, ◌-◌, ◌*◌, ◌≤◌, Bool, false, List, length, take, sym, refl, ap, ◌∙◌, subst, arith, rules}
-use Rattle.image.proofs.Bools.{or_false_first, or_false_second}
-use Rattle.serialize.specs.Steps.Partition.{pairs_stored, tables_from}
-use Rattle.serialize.specs.Steps.Meeting.{Apart, TablesApart}
-use Rattle.serialize.proofs.Insertion.{not_met, stopped}
-use Rattle.serialize.proofs.PartitionSteps.{tables_step, front_kept, apart_next, tables_end}
+use Rattle.std.proofs.Common.{◌≡◌, ℕ, ◌+◌, ◌-◌, ◌*◌, ◌≤◌, Bool, false, List, length, take}
+use Rattle.serialize.specs.Steps.Partition.{tables_from}
+use Rattle.serialize.specs.Steps.Meeting.{TablesApart}
 use Rattle.serialize.proofs.tables.fill_tables.Given as goal
 
 -- the tables from t on, filled in this buffer, leave what all tables leave

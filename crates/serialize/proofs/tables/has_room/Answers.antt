@@ -1,5 +1,5 @@
 -- `serialize::tables::has_room` meets its contract. Assumes nothing.
-use Rattle.std.proofs.Common.{sym, ◌∙◌, arith, rules}
+use Rattle.std.proofs.Common.{sym, ◌∙◌, arith}
 use Rattle.serialize.proofs.OrAll.{each_within}
 use Rattle.serialize.proofs.tables.has_room.Goals as goal
 

@@ -1,7 +1,7 @@
 -- `serialize::tables::insert_pairs` meets its contract. Assumes nothing.
-use Rattle.std.proofs.Common.{◌-◌, refl, ◌∙◌, arith, rules}
+use Rattle.std.proofs.Common.{refl, ◌∙◌, arith}
 use Rattle.serialize.proofs.Insertion.{not_met, stopped}
-use Rattle.serialize.proofs.TableFill.{Filling, filling_start, filling_step, filling_end}
+use Rattle.serialize.proofs.TableFill.{filling_start, filling_step, filling_end}
 use Rattle.serialize.proofs.tables.insert_pairs.Goals as goal
 
 pub loop-i-init : goal.loop-i-init
@@ -12,7 +12,7 @@ loop-i-init c =
 pub insert_pair-one-requires : goal.insert_pair-one-requires
 insert_pair-one-requires c =
     let pre = c.requires in
-    let long = c.loop-i.invariant.table.long ∙ c.clear_bytes.auto.0 in
+    let long = c.loop-i.invariant.table.long ∙ c.clear_bytes.auto.buf in
     record {
       some = omega (arith, c.loop-i-test.true);
       inside = omega (arith, pre.inside, long);
@@ -22,8 +22,8 @@ insert_pair-one-requires c =
 pub loop-i-preserved : goal.loop-i-preserved
 loop-i-preserved c =
     let pre = c.requires in
-    filling_step c.loop-i.invariant pre.behind (omega (arith, pre.inside, c.clear_bytes.auto.0)) c.loop-i-test.true _ _ refl refl
-    c.insert_pair-one.auto.0 c.insert_pair-one.ensures
+    filling_step c.loop-i.invariant pre.behind (omega (arith, pre.inside, c.clear_bytes.auto.buf)) c.loop-i-test.true _ _ refl refl
+    c.insert_pair-one.auto.buf c.insert_pair-one.ensures
 
 pub returns-then-stop-one : goal.returns-then-stop-one
 returns-then-stop-one c =

@@ -1,7 +1,6 @@
 -- `serialize::tables::insert_pairs` meets its contract. Assumes nothing.
-use Rattle.std.proofs.Common.{◌-◌, refl, ◌∙◌, arith, rules}
-use Rattle.serialize.proofs.Insertion.{not_met, stopped}
-use Rattle.serialize.proofs.TableFill.{Filling, filling_start, filling_step, filling_end}
+use Rattle.std.proofs.Common.{◌-◌}
+use Rattle.serialize.proofs.TableFill.{Filling}
 use Rattle.serialize.proofs.tables.insert_pairs.Given as goal
 
 abbrev pub invariant-loop-i : goal.invariant-loop-i

@@ -2,7 +2,6 @@
 use Prim.Native.Nat.{ℕ}
 use mathlib.Core.Path.{ap₂}
 use Rattle.writer.specs.declared.c_record.Record.{Record}
-use borrow.Author.Rules.{rules}
 use Rattle.writer.proofs.c_record.record_of.Goals as goal
 
 pub returns : goal.returns
@@ -11,4 +10,4 @@ returns c =
     ap₂ {C = Record}
     (λ (m r : ℕ). record { mode = m; repeats = r; entries = w.entries; back = w.back; length = w.length; end = w.end })
     c.flag_word.ensures
-    c.repeats_word_lem.ensures
+    c.repeats_word.ensures

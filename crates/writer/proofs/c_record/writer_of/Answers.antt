@@ -3,7 +3,6 @@ use mathlib.Core.Path.{ap₂}
 use Rattle.image.specs.declared.Mode.{Mode}
 use Rattle.writer.specs.declared.Repeats.{Repeats}
 use Rattle.writer.specs.declared.CQDBWriter.{CQDBWriter}
-use borrow.Author.Rules.{rules}
 use Rattle.writer.proofs.c_record.writer_of.Goals as goal
 
 pub returns : goal.returns
@@ -11,5 +10,5 @@ returns c =
     let r = c.args.r in
     ap₂ {C = CQDBWriter}
     (λ (f : Mode) (g : Repeats). record { mode = f; repeats = g; length = r.length; end = r.end; entries = r.entries; back = r.back })
-    c.Mode-of.ensures
+    c.mode_of-mode.ensures
     c.repeats_of-repeats.ensures

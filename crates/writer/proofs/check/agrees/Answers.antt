@@ -1,7 +1,6 @@
 -- `writer::check::agrees` meets its contract. Assumes nothing.
 use Rattle.writer.specs.State.{state_with}
 use Rattle.writer.proofs.Earlier.{not_four}
-use borrow.Author.Rules.{rules}
 use Rattle.writer.proofs.check.agrees.Goals as goal
 
 pub returns : goal.returns

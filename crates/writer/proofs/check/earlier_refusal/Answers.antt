@@ -3,7 +3,6 @@ use mathlib.Core.Bool.{true, false}
 use mathlib.Core.Path.{ap, ◌∙◌}
 use Rattle.writer.specs.State.{state_with, refuses_repeats}
 use Rattle.writer.proofs.Earlier.{earlier_by}
-use borrow.Author.Rules.{rules}
 use Rattle.writer.proofs.check.earlier_refusal.Goals as goal
 
 pub returns-in-Off : goal.returns-in-Off

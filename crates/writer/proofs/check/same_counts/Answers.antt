@@ -1,15 +1,10 @@
 -- `writer::check::same_counts` meets its contract. Assumes nothing.
 use native.Mathlib.Omega.{arith}
-use Prim.Native.Nat.{ℕ, ◌<◌, ◌≤◌, ◌-◌}
+use Prim.Native.Nat.{ℕ, ◌<◌, ◌-◌}
 use mathlib.Core.Path.{◌≡◌, refl}
-use mathlib.Core.Bool.{Bool, ◌&&◌}
-use mathlib.Core.List.{List}
 use lib.ListN.{get_or}
 use lib.Dec.{eqb}
-use Rattle.image.specs.Bytes.{all}
-use Rattle.writer.specs.Steps.Earlier.{same_counts}
 use Rattle.image.proofs.AllOfRange.{all_more, all_end}
-use Rattle.writer.proofs.check.same_counts.Invariants.{Inv}
 use Rattle.writer.proofs.check.same_counts.Goals as goal
 
 pub loop-t-preserved : goal.loop-t-preserved
@@ -25,7 +20,7 @@ pub returns : goal.returns
 returns c =
     let a = c.args in
     let z : 256 - c.loop-t.t ≡ 0 = omega arith in
-    all_end (λ (k : ℕ). eqb (get_or a.a.now k 0) (get_or a.b.now k 0)) c.loop-t.t _ _ (rw z at c.loop-t.invariant.false)
+    all_end (λ (k : ℕ). eqb (get_or a.a.now k 0) (get_or a.b.now k 0)) c.loop-t.t _ _ (rw z at c.loop-t.invariant.left)
 
 pub loop-t-init : goal.loop-t-init
 loop-t-init c = record { inside = omega arith; left = refl }

@@ -1,14 +1,12 @@
 -- `writer::check::same_counts` meets its contract. Assumes nothing.
-use native.Mathlib.Omega.{arith}
-use Prim.Native.Nat.{ℕ, ◌<◌, ◌≤◌, ◌-◌}
-use mathlib.Core.Path.{◌≡◌, refl}
+use Prim.Native.Nat.{ℕ, ◌≤◌, ◌-◌}
+use mathlib.Core.Path.{◌≡◌}
 use mathlib.Core.Bool.{Bool, ◌&&◌}
 use mathlib.Core.List.{List}
 use lib.ListN.{get_or}
 use lib.Dec.{eqb}
 use Rattle.image.specs.Bytes.{all}
 use Rattle.writer.specs.Steps.Earlier.{same_counts}
-use Rattle.image.proofs.AllOfRange.{all_more, all_end}
 use Rattle.writer.proofs.check.same_counts.Given as goal
 
 -- the loop's invariant: the answer so far, and the counts that are left, decide

@@ -6,17 +6,16 @@ use Rattle.writer.specs.State.{state_with}
 use Rattle.writer.specs.Steps.Earlier.{walk_refusal}
 use Rattle.writer.proofs.Agree.{zeros}
 use Rattle.writer.proofs.Earlier.{not_whole, other_counts, other_back, by_name}
-use borrow.Author.Rules.{rules}
 use Rattle.writer.proofs.check.walk_refusal.Goals.{Else-not-walked, Else-w-back_in}
 use Rattle.writer.proofs.check.walk_refusal.Goals as goal
 
 whole : (c : Else-not-walked) → c.walk-walked.result.whole ≡ true
-whole c = c.if-not-walked.false
+whole c = not-false _ c.if-not-walked.false
 
 pub returns-then-not-walked : goal.returns-then-not-walked
 returns-then-not-walked c =
     let a = c.args in
-    not_whole a.w a.counts.now a.buf.now a.name.now _ c.walk-walked.ensures.whole_is c.if-not-walked.true
+    not_whole a.w a.counts.now a.buf.now a.name.now _ c.walk-walked.ensures.whole_is (not-true _ c.if-not-walked.true)
 
 pub returns-then-not-same_counts : goal.returns-then-not-same_counts
 returns-then-not-same_counts c =
@@ -39,9 +38,9 @@ by_match : (c : Else-w-back_in) (m : Bool)
 by_match c m is =
     let a = c.args in
     let found = c.walk-walked.ensures in
-    by_name a.w a.counts.now a.buf.now a.name.now _ found.whole_is (let the-whole : c.walk-walked.result.whole ≡ true = c.if-not-walked.false in the-whole) _ (found.counts_are (let the-whole : c.walk-walked.result.whole ≡ true = c.if-not-walked.false in the-whole))
-    _ c.same_counts.ensures c.if-not-same_counts.false _ _ (found.back_is (let the-whole : c.walk-walked.result.whole ≡ true = c.if-not-walked.false in the-whole)) c.back_in.ensures c.if-w-back_in.false
-    m (is ∙ found.contains_is (let the-whole : c.walk-walked.result.whole ≡ true = c.if-not-walked.false in the-whole))
+    by_name a.w a.counts.now a.buf.now a.name.now _ found.whole_is (not-false _ c.if-not-walked.false) _ (found.counts_are (not-false _ c.if-not-walked.false))
+    _ c.same_counts.ensures c.if-not-same_counts.false _ _ (found.back_is (not-false _ c.if-not-walked.false)) c.back_in.ensures c.if-w-back_in.false
+    m (is ∙ found.contains_is (not-false _ c.if-not-walked.false))
 
 pub walk-walked-requires : goal.walk-walked-requires
 walk-walked-requires c = record { head = c.requires.low; inside = c.requires.high; zero = zeros 256 }

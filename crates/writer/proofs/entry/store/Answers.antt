@@ -1,16 +1,15 @@
 -- `writer::entry::store` meets its contract. Assumes nothing.
 use lib.ListN.{length-set}
 use native.Mathlib.Omega.{arith}
-use borrow.Author.Rules.{rules}
 use Rattle.writer.proofs.EntryStored.{stored_parts}
 use Rattle.writer.proofs.entry.store.Goals as goal
 
 pub shape_of-buf : goal.shape_of-buf
 shape_of-buf c =
-    simp length-set (omega (arith, c.store_Bytes.auto, c.store_word-2.auto, c.Store-word.auto))
+    simp length-set (omega (arith, c.store_bytes.auto, c.store_word-2.auto, c.store_word.auto))
 
 pub returns : goal.returns
 returns c =
     let a = c.args in
-    stored_parts a.name.now a.buf.now _ _ _ a.at a.id c.Store-word.ensures
-    c.store_word-2.ensures c.store_Bytes.ensures
+    stored_parts a.name.now a.buf.now _ _ _ a.at a.id c.store_word.ensures
+    c.store_word-2.ensures c.store_bytes.ensures

@@ -2,7 +2,6 @@
 use mathlib.Core.Path.{sym, ap, ◌∙◌}
 use Rattle.image.specs.declared.Mode.{Mode}
 use Rattle.writer.specs.Put.{back_after}
-use borrow.Author.Rules.{rules}
 use Rattle.writer.proofs.record.back_after.Goals as goal
 
 pub returns-in-Twoway : goal.returns-in-Twoway

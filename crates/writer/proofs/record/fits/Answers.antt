@@ -1,7 +1,5 @@
 -- `writer::record::fits` meets its contract. Assumes nothing.
 use mathlib.Core.Path.{refl, sym, ◌∙◌}
-use borrow.Author.Rules.{rules}
-use borrow.Author.Tests.{not-true, not-false}
 use Rattle.writer.specs.State.{fits}
 use Rattle.writer.proofs.record.fits.Goals as goal
 

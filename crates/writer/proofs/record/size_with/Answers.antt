@@ -6,7 +6,6 @@ use Rattle.image.specs.Image.{back_in}
 use Rattle.writer.specs.Put.{back_after, writer_after_put}
 use Rattle.serialize.proofs.WriteSteps.{back_in_le}
 use Rattle.writer.proofs.Fits.{back_after_le}
-use borrow.Author.Rules.{rules}
 use Rattle.writer.proofs.record.size_with.Goals as goal
 
 pub overflow_mul-result-2 : goal.overflow_mul-result-2

@@ -5,7 +5,6 @@ use Rattle.writer.specs.Put.{back_after}
 use Rattle.writer.proofs.Fits.{back_after_fits}
 use native.Mathlib.Omega.{arith}
 use Rattle.writer.specs.Put.{writer_after_put}
-use borrow.Author.Rules.{rules}
 use Rattle.writer.proofs.record.writer_after_put.Goals as goal
 
 pub overflow_add-result : goal.overflow_add-result
