@@ -6,7 +6,7 @@ use borrow.Author.Tests.{eqb-false}
 use Rattle.jhash.specs.NameHash.{hash_of}
 use Rattle.image.specs.Bytes.{le32, cat, filter, range}
 use Rattle.image.specs.Tables.{Bucket, empty, table_of, insert, insert_all, filled}
-use Rattle.image.specs.Image.{Entry, Placed, head_size, entry_bytes, entry_size, entries_size, placed, in_table_lem, of_table, count, bucket_of, bucket_bytes}
+use Rattle.image.specs.Image.{Entry, Placed, head_size, entry_bytes, entry_size, entries_size, placed, in_table, of_table, count, bucket_of, bucket_bytes}
 use Rattle.image.specs.Image.{table, table_bytes, entries_before, table_row, table_rows, tables, back_word, back_words, back_in, back_size_of}
 use Rattle.image.specs.Image.{image_size, head_bytes, head_words, flag_word, back_offset, image}
 use Rattle.image.specs.declared.Mode.{Mode}
@@ -90,18 +90,18 @@ pub count_nil : (t : ℕ) → count t [] ≡ 0
 unfolding of_table filter
 count_nil t = refl
 
-pub count_cons : (t : ℕ) (p : Placed) (ps : List Placed) → count t (p ∷ ps) ≡ cond (in_table_lem t p) 1 0 + count t ps
+pub count_cons : (t : ℕ) (p : Placed) (ps : List Placed) → count t (p ∷ ps) ≡ cond (in_table t p) 1 0 + count t ps
 unfolding of_table filter
-count_cons t p ps = length_with_first (in_table_lem t p)
+count_cons t p ps = length_with_first (in_table t p)
   where
-    length_with_first : (b : Bool) → length (cond b (p ∷ filter (in_table_lem t) ps) (filter (in_table_lem t) ps)) ≡ cond b 1 0
-        + length (filter (in_table_lem t) ps)
+    length_with_first : (b : Bool) → length (cond b (p ∷ filter (in_table t) ps) (filter (in_table t) ps)) ≡ cond b 1 0
+        + length (filter (in_table t) ps)
     length_with_first true = omega arith
     length_with_first false = omega arith
 
 pub of_table-append : (t : ℕ) (ps qs : List Placed) → of_table t (ps ++ qs) ≡ of_table t ps ++ of_table t qs
 unfolding of_table
-of_table-append t ps qs = filter-append (in_table_lem t) ps qs
+of_table-append t ps qs = filter-append (in_table t) ps qs
 
 pub count_append : (t : ℕ) (ps qs : List Placed) → count t (ps ++ qs) ≡ count t ps + count t qs
 count_append t ps qs = ap length (of_table-append t ps qs) ∙ length-append (of_table t ps) (of_table t qs)

@@ -38,13 +38,13 @@ placed o [] = []
 placed o (e ∷ es) = record { entry = e; at = o } ∷ placed (o + entry_size e) es
 
 -- is an entry in table t?
-abbrev pub in_table_lem : ℕ → Placed → Bool
-in_table_lem t p = table_of (hash_of p.entry.name) == t
+abbrev pub in_table : ℕ → Placed → Bool
+in_table t p = table_of (hash_of p.entry.name) == t
 
 -- the entries of table t, in put order
 unfoldable pub of_table : ℕ → List Placed → List Placed
 unfolding filter
-of_table t ps = filter (in_table_lem t) ps
+of_table t ps = filter (in_table t) ps
 
 abbrev pub count : ℕ → List Placed → ℕ
 count t ps = length (of_table t ps)

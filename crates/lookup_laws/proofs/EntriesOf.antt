@@ -12,10 +12,10 @@ use lib.ListN.{length}
 use Rattle.jhash.specs.NameHash.{hash_of}
 use Rattle.image.specs.Bytes.{filter, same}
 use Rattle.image.specs.Tables.{table_of}
-use Rattle.image.specs.Image.{Entry, Placed, entry_size, entries_size, placed, in_table_lem, of_table, has_id}
+use Rattle.image.specs.Image.{Entry, Placed, entry_size, entries_size, placed, in_table, of_table, has_id}
 use Rattle.reader.specs.Lookup.{Hit, Probe, pass, hit}
 use Rattle.consistency.specs.Matches.{Matches, matched, ended, any_match}
-use Rattle.lookup_laws.specs.Answer.{has_name, of_name, of_id, first_id, last_name, first_at_lem}
+use Rattle.lookup_laws.specs.Answer.{has_name, of_name, of_id, first_id, last_name, first_at}
 use Rattle.image.proofs.AllOfList.{All}
 use Rattle.image.proofs.Equal.{same_self, same_true, same_false}
 use Rattle.lookup_laws.proofs.Scan.{first_of, match_hits}
@@ -48,7 +48,7 @@ hits_of_name_lem name o (e ∷ es) =
     p = record { entry = e; at = o }
 
     K : List Placed
-    K = filter (in_table_lem (table_of (hash_of name))) (placed (o + entry_size e) es)
+    K = filter (in_table (table_of (hash_of name))) (placed (o + entry_size e) es)
 
     T : List Hit
     T = hits_of_name name (o + entry_size e) es
@@ -81,14 +81,14 @@ first_id_lem name o (e ∷ es) = id_with_first (has_name name e) (hits_of_name n
     id_with_first true T ih = refl
     id_with_first false T ih = ih
 
-pub first_at : (name : List ℕ) (o : ℕ) (es : List Entry) → Option.map offset_in (first_of (hits_of_name name o es)) ≡ first_at_lem name o es
-unfolding hits_of_name first_at_lem
-first_at name o [] = refl
-first_at name o (e ∷ es) = offset_with_first (has_name name e) (hits_of_name name (o + entry_size e) es) (first_at name (o + entry_size e) es)
+pub first_at_lem : (name : List ℕ) (o : ℕ) (es : List Entry) → Option.map offset_in (first_of (hits_of_name name o es)) ≡ first_at name o es
+unfolding hits_of_name first_at
+first_at_lem name o [] = refl
+first_at_lem name o (e ∷ es) = offset_with_first (has_name name e) (hits_of_name name (o + entry_size e) es) (first_at_lem name (o + entry_size e) es)
   where
-    offset_with_first : (s : Bool) (T : List Hit) → Option.map offset_in (first_of T) ≡ first_at_lem name (o + entry_size e) es
+    offset_with_first : (s : Bool) (T : List Hit) → Option.map offset_in (first_of T) ≡ first_at name (o + entry_size e) es
         → Option.map offset_in (first_of (cond s (hit_of_entry (record { entry = e; at = o }) ∷ T) T))
-        ≡ cond s (some o) (first_at_lem name (o + entry_size e) es)
+        ≡ cond s (some o) (first_at name (o + entry_size e) es)
     offset_with_first true T ih = refl
     offset_with_first false T ih = ih
 

@@ -14,13 +14,13 @@ use Rattle.image.specs.declared.Mode.TheVariants.{Twoway}
 use Rattle.reader.specs.Open.{opening}
 use Rattle.reader.specs.Lookup.{Lookup, found, nothing, lookup}
 use Rattle.reader.specs.declared.Found.{Found}
-use Rattle.lookup_laws.specs.Answer.{found_id, found_offset, name_given, of_name, of_id, table_puts, first_id, last_name, first_at_lem}
+use Rattle.lookup_laws.specs.Answer.{found_id, found_offset, name_given, of_name, of_id, table_puts, first_id, last_name, first_at}
 use Rattle.reader.specs.Cases.{reads}
 use Rattle.lookup_laws.proofs.ImageOpening.{opening_image}
 use Rattle.consistency.proofs.Homes.{lookup_first}
 use Rattle.consistency.specs.Matches.{matches_of, any_match}
 use Rattle.lookup_laws.proofs.Scan.{first_of, found_hit, first_hit}
-use Rattle.lookup_laws.proofs.EntriesOf.{hits_of_name, id_in, offset_in, first_id_lem, first_at, some_id, any_match_lem, named_hit}
+use Rattle.lookup_laws.proofs.EntriesOf.{hits_of_name, id_in, offset_in, first_id_lem, first_at_lem, some_id, any_match_lem, named_hit}
 use Rattle.lookup_laws.proofs.ImageLookup.{matches_searched}
 use Rattle.lookup_laws.proofs.ImageNaming.{naming_image}
 
@@ -72,9 +72,9 @@ module _ (mode : Mode) (es : List Entry) (fits : image_size mode es ≤ 42949672
         hit_id (lookup (image mode es) name) ∙ ap (map id_in) found_first ∙ first_id_lem name head_size es
 
     -- 02 (ii): the found offset is the place of that entry
-    pub name_stands : found_offset (lookup (image mode es) name) ≡ first_at_lem name head_size es
+    pub name_stands : found_offset (lookup (image mode es) name) ≡ first_at name head_size es
     name_stands =
-        hit_offset (lookup (image mode es) name) ∙ ap (map offset_in) found_first ∙ first_at name head_size es
+        hit_offset (lookup (image mode es) name) ∙ ap (map offset_in) found_first ∙ first_at_lem name head_size es
 
     pub name_nothing : (found_id (lookup (image mode es) name) ≡ none) ↔ (of_name name es ≡ [])
     name_nothing =

@@ -13,7 +13,7 @@ use Rattle.jhash.specs.NameHash.{hash_of}
 use Rattle.jhash.proofs.Outcomes.{hash_of_below}
 use Rattle.image.specs.Bytes.{le32, same}
 use Rattle.image.specs.Tables.{Bucket, empty, table_of, start, probe_sequence, filled}
-use Rattle.image.specs.Image.{Entry, Placed, head_size, of_table, in_table_lem, count, bucket_of, bucket_bytes, table, entries_before, table_offset}
+use Rattle.image.specs.Image.{Entry, Placed, head_size, of_table, in_table, count, bucket_of, bucket_bytes, table, entries_before, table_offset}
 use Rattle.image.specs.Image.{back_size}
 use Rattle.image.specs.Image.{entries_end, image_size, image}
 use Rattle.image.specs.declared.Mode.{Mode}
@@ -76,7 +76,7 @@ module _ (mode : Mode) (es : List Entry) (fits : image_size mode es ≤ 42949672
   all_read : All Read qs
   unfolding qs of_table
   all_read =
-      all_filter Read (in_table_lem (table_of (hash_of name))) (placed_in es)
+      all_filter Read (in_table (table_of (hash_of name))) (placed_in es)
       (all_both (EntryAt (image mode es)) (λ (p : Placed). p.entry.id < 2 ^ 32) (placed_in es) (all_entries_at mode es)
       (all_placed (λ (e : Entry). e.id < 2 ^ 32) head_size es (ids_below es (2 ^ 32) ids)))
 
@@ -159,10 +159,10 @@ module _ (mode : Mode) (es : List Entry) (fits : image_size mode es ≤ 42949672
       (λ (k : ℕ). probe_with (hash_of name) v (get_or (table (table_of (hash_of name)) (placed_in es)) k empty))
       n seen_bucket n (start (hash_of name) n) 0 (mod-lt (hash_of name / 256) (omega arith))
 
-  in_table : 0 < count (table_of (hash_of name)) (placed_in es)
+  in_table_lem : 0 < count (table_of (hash_of name)) (placed_in es)
       → Searched (hits_of_name name head_size es) (table_puts name es) (matches_in (image mode es) name (hash_of name) at n)
   unfolding n table_puts
-  in_table some-entry =
+  in_table_lem some-entry =
       searched_same name_hits length_qs (sym (search_alike some-entry))
       (searched n (hash_of name) v (map bucket_of qs) (omega arith) (omega (arith, length_qs)) all_taken)
 
@@ -191,7 +191,7 @@ module _ (mode : Mode) (es : List Entry) (fits : image_size mode es ≤ 42949672
         ne_eqb (entries_end es + 16 * entries_before (table_of (hash_of name)) (placed_in es)) 0 (λ z. omega arith),
         ne_eqb (2 * count (table_of (hash_of name)) (placed_in es)) 0 (λ z. omega arith),
       )
-      (in_table c)
+      (in_table_lem c)
 
   pub matches_searched : Searched (hits_of_name name head_size es) (table_puts name es) (matches_of (image mode es) name)
   unfolding matches_of

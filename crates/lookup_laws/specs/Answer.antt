@@ -49,9 +49,9 @@ last_name (e ∷ f ∷ es) = last_name (f ∷ es)
 
 -- 02 (ii): the place of a name's first entry, where the entries follow each other from o on: o plus the sizes of the
 -- entries before it
-unfoldable pub first_at_lem : List ℕ → ℕ → List Entry → Option ℕ
-first_at_lem name o [] = none
-first_at_lem name o (e ∷ es) = cond (has_name name e) (some o) (first_at_lem name (o + entry_size e) es)
+unfoldable pub first_at : List ℕ → ℕ → List Entry → Option ℕ
+first_at name o [] = none
+first_at name o (e ∷ es) = cond (has_name name e) (some o) (first_at name (o + entry_size e) es)
 
 -- is there a name?
 abbrev pub is_named : Option (List ℕ) → Bool

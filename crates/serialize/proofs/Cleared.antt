@@ -1,5 +1,6 @@
 -- Head and rows written, the back array cleared, or the tables too: the image before any entry is partitioned or inserted. Assumes nothing.
-use Rattle.std.proofs.Common.{◌≡◌, ℕ, ◌+◌, ◌-◌, ◌*◌, ◌≤◌, cond, eqb, List, [], ◌++◌, length, take, drop, replicate, sym, ap, ◌∙◌, append_assoc, append-nil, arith, length-append, length-drop, drop-drop, take-add}
+use Rattle.std.proofs.Common.{◌≡◌, ℕ, ◌+◌, ◌-◌, ◌*◌, ◌≤◌, cond, eqb, List, [], ◌++◌, length, take, drop, replicate, sym, ap, ◌∙◌, append_assoc, append-nil}
+use Rattle.std.proofs.Common.{arith, length-append, length-drop, drop-drop, take-add}
 use lib.ListN.{length-replicate}
 use lib.Seq.{sets, sets-eq}
 use Rattle.image.specs.Image.{Entry, head_size, placed, flag_word, back_in, back_size, back_size_of, entries_end, image_size}
@@ -10,7 +11,7 @@ use Rattle.image.proofs.Stores.{sets_then, sets_right_at, sets_whole}
 use Rattle.image.proofs.Parts.{placed_in}
 use Rattle.serialize.specs.Record.{finished_of}
 use Rattle.image.specs.Stored.{between}
-use Rattle.serialize.specs.Steps.Written.{rows_from_lem, back_offset_of, headed, zeroed, begun_image}
+use Rattle.serialize.specs.Steps.Written.{rows_from, back_offset_of, headed, zeroed, begun_image}
 use Rattle.serialize.proofs.HeadRows.{Counts, rows_image}
 use Rattle.serialize.proofs.PartialImage.{tables_with, up_to_entries, length_up_to_entries, partial, zeros_both, zeros_back_words}
 use Rattle.serialize.proofs.InsertStep.{store_in}
@@ -83,8 +84,8 @@ module _ (mode : Mode) (end entries back : ℕ) (counts buf : List ℕ) (es : Li
       ∙ ap (λ (n : ℕ). head_bytes (image_size mode es) (flag_word mode) n (back_offset_of mode end entries back)) back_is
       ∙ ap (head_bytes (image_size mode es) (flag_word mode) (back_size_of mode es)) back_offset_is
 
-  rows_are : rows_from_lem counts end 0 256 ≡ table_rows (entries_end es) (placed_in es)
-  rows_are = ap (λ (o : ℕ). rows_from_lem counts o 0 256) numbers.ends ∙ rows_image counts (entries_end es) (placed_in es) numbers.tallies
+  rows_are : rows_from counts end 0 256 ≡ table_rows (entries_end es) (placed_in es)
+  rows_are = ap (λ (o : ℕ). rows_from counts o 0 256) numbers.ends ∙ rows_image counts (entries_end es) (placed_in es) numbers.tallies
 
   zeros_back : replicate (size - (end + 16 * entries)) 0 ≡ back_words [] (back_size_of mode es)
   zeros_back =
@@ -101,7 +102,7 @@ module _ (mode : Mode) (end entries back : ℕ) (counts buf : List ℕ) (es : Li
       let from = end + 16 * entries in
       let z : List ℕ = replicate (size - from) 0 in
       let h = head_bytes size (flag_word mode) (back_in mode back) (back_offset_of mode end entries back) in
-      let r = rows_from_lem counts end 0 256 in
+      let r = rows_from counts end 0 256 in
       let H = head_words mode es in
       let R = table_rows (entries_end es) (placed_in es) in
       let E = between buf head_size end in

@@ -1,10 +1,11 @@
 -- If no entries of equal name met while the tables were filled, no two entries have equal names. Assumes nothing.
-use Rattle.std.proofs.Common.{◌≡◌, ℕ, zero, suc, ◌+◌, ◌-◌, ◌*◌, ◌^◌, ◌<◌, ◌≤◌, true, false, List, [], ◌∷◌, ◌++◌, map, length, take, drop, sym, refl, ap, ◌∙◌, subst, ap₂, append_assoc, append-nil, mod-lt, arith, eq-eqb}
+use Rattle.std.proofs.Common.{◌≡◌, ℕ, zero, suc, ◌+◌, ◌-◌, ◌*◌, ◌^◌, ◌<◌, ◌≤◌, true, false, List, [], ◌∷◌, ◌++◌, map, length, take, drop, sym, refl, ap, ◌∙◌}
+use Rattle.std.proofs.Common.{subst, ap₂, append_assoc, append-nil, mod-lt, arith, eq-eqb}
 use native.Mathlib.Decide.{ℕ_discrete}
 use Rattle.jhash.specs.NameHash.{hash_of}
 use Rattle.image.specs.Bytes.{same, cat, filter}
 use Rattle.image.specs.Tables.{Bucket, table_of}
-use Rattle.image.specs.Image.{Entry, Placed, head_size, entry_bytes, entry_size, entries_size, placed, in_table_lem, of_table, count, bucket_of, entries_before}
+use Rattle.image.specs.Image.{Entry, Placed, head_size, entry_bytes, entry_size, entries_size, placed, in_table, of_table, count, bucket_of, entries_before}
 use Rattle.image.specs.Image.{back_offset, entries_end, image_size}
 use Rattle.image.specs.declared.Mode.{Mode}
 use Rattle.image.proofs.Equal.{same_true}
@@ -80,15 +81,15 @@ module _ (front : List ℕ) where
       let p : Placed = record { entry = e; at = o } in
       let t = own_table p in
       let q = placed (o + entry_size e) es in
-      let two : Pairwise (OtherNames front) (map bucket_of (p ∷ filter (in_table_lem t) q)) =
-      subst (λ (l : List Placed). Pairwise (OtherNames front) (map bucket_of l)) (filter_yes (in_table_lem t) p q (eq-eqb t t refl))
+      let two : Pairwise (OtherNames front) (map bucket_of (p ∷ filter (in_table t) q)) =
+      subst (λ (l : List Placed). Pairwise (OtherNames front) (map bucket_of l)) (filter_yes (in_table t) p q (eq-eqb t t refl))
       (apart t (mod-lt (hash_of e.name) (omega arith))) in
-      let told = all_tested (OtherNames front (bucket_of p)) bucket_of (in_table_lem t) q two.0 in
+      let told = all_tested (OtherNames front (bucket_of p)) bucket_of (in_table t) q two.0 in
       let each : All (λ (x : Placed). same e.name x.entry.name ≡ false) q =
       all_map (λ x h. other p x named.0 h.0 (λ z. h.1 (eq-eqb (table_of (hash_of x.entry.name)) t (sym z)))) q
-      (all_both Named (λ (x : Placed). in_table_lem t x ≡ true → OtherNames front (bucket_of p) (bucket_of x)) q named.1 told) in (
+      (all_both Named (λ (x : Placed). in_table t x ≡ true → OtherNames front (bucket_of p) (bucket_of x)) q named.1 told) in (
         entries_of (λ (y : Entry). same e.name y.name ≡ false) (o + entry_size e) es each,
-        tables_distinct (o + entry_size e) es named.1 (λ s h. pairwise_rest (OtherNames front) bucket_of (in_table_lem s) p q (apart s h)),
+        tables_distinct (o + entry_size e) es named.1 (λ s h. pairwise_rest (OtherNames front) bucket_of (in_table s) p q (apart s h)),
       )
 
 -- ---- by tables
@@ -118,14 +119,15 @@ module _ (mode : Mode) (es : List Entry) (X tail : List ℕ) (long : length X �
             s (omega (arith, e)) (omega arith)
       ]
 
-  pub by_tables_distinct : TablesApart (take (entries_end es) (filled_to mode es X 0 tail)) counts (entries_end es) 0 256 (filled_to mode es X 0 tail) → Distinct es
+  pub by_tables_distinct : TablesApart (take (entries_end es) (filled_to mode es X 0 tail)) counts (entries_end es) 0 256
+      (filled_to mode es X 0 tail) → Distinct es
   unfolding entries_before entries_size of_table
   by_tables_distinct told =
       let U = up_to_entries mode es in
       let none : entries_end es ≡ entries_end es + 16 * entries_before 0 (placed_in es) = omega arith in
       let full : (t : ℕ) → All (λ (b : Bucket). b.at ≡ 0 → ⊥) (map bucket_of (of_table t (placed_in es))) = λ t.
       all_image (λ (b : Bucket). b.at ≡ 0 → ⊥) bucket_of (λ q l z. omega arith) (of_table t (placed_in es))
-      (all_filter (λ (q : Placed). head_size ≤ q.at) (in_table_lem t) (placed_in es) (above head_size es)) in
+      (all_filter (λ (q : Placed). head_size ≤ q.at) (in_table t) (placed_in es) (above head_size es)) in
       let apart = subst (λ (g : List ℕ). TablesApart g counts (entries_end es) 0 256 (filled_to mode es X 0 tail)) (front_filled mode es X tail long) told in
       tables_distinct U head_size es (names_placed mode es (omega arith) es [] refl)
       (λ t h. tables_apart 256 0 (omega arith) (subst (λ (k : ℕ). TablesApart front counts k 0 256 (filled_to mode es X 0 tail)) none apart) t
@@ -157,11 +159,11 @@ module _ (mode : Mode) (es : List Entry) (tail : List ℕ) (small : image_size m
       let earlier : All (Named U) (placed_in qs) =
       all_before (Named U) (placed_in qs) (placed at (e ∷ rest))
       (subst (All (Named U)) (ap (placed head_size) split ∙ placed_append head_size qs (e ∷ rest)) (names_placed mode es (omega arith) es [] refl)) in
-      let told-each = all_tested (λ (x : Bucket). x.hash ≡ hash_of e.name → same_names U at x.at ≡ false) bucket_of (in_table_lem t) (placed_in qs)
+      let told-each = all_tested (λ (x : Bucket). x.hash ≡ hash_of e.name → same_names U at x.at ≡ false) bucket_of (in_table t) (placed_in qs)
       (row_apart mode es qs rest e tail split small ids row) in
       let each : All (λ (x : Placed). same x.entry.name e.name ≡ false) (placed_in qs) =
       all_map (λ x h. other U x p h.0 own (λ z. h.1 (eq-eqb (table_of (hash_of x.entry.name)) t z))) (placed_in qs)
-      (all_both (Named U) (λ (x : Placed). in_table_lem t x ≡ true → OtherNames U (bucket_of x) (bucket_of p)) (placed_in qs) earlier told-each) in
+      (all_both (Named U) (λ (x : Placed). in_table t x ≡ true → OtherNames U (bucket_of x) (bucket_of p)) (placed_in qs) earlier told-each) in
       let later =
       subst (λ (k : ℕ). UnmetFrom mode o end (length rest) k (partial mode es (qs ++ e ∷ []) ++ tail)) (next_at qs e)
       (subst (λ (l : List ℕ). UnmetFrom mode o end (length rest) (at + (8 + n)) l) (step mode es qs rest e tail split small ids) both.1) in

@@ -1,11 +1,13 @@
 -- One entry more in tables and back array: one bucket of one table changes, and one word of the back array. Assumes nothing.
-use Rattle.std.proofs.Common.{◌≡◌, ℕ, zero, suc, ◌+◌, ◌*◌, ◌/◌, ◌^◌, ◌<◌, ◌≤◌, false, eqb, List, [], ◌∷◌, ◌++◌, map, length, sym, refl, ap, ◌∙◌, append-nil, mod-lt, arith, lit<, eq-eqb, ne_eqb}
+use Rattle.std.proofs.Common.{◌≡◌, ℕ, zero, suc, ◌+◌, ◌*◌, ◌/◌, ◌^◌, ◌<◌, ◌≤◌, false, eqb, List, [], ◌∷◌, ◌++◌, map, length, sym, refl, ap, ◌∙◌, append-nil}
+use Rattle.std.proofs.Common.{mod-lt, arith, lit<, eq-eqb, ne_eqb}
 use mathlib.Core.List.{map-append}
 use lib.Seq.{sets}
 use Rattle.jhash.specs.NameHash.{hash_of}
 use Rattle.image.specs.Bytes.{le32, cat, filter, range}
 use Rattle.image.specs.Tables.{Bucket, table_of, start, next, probe_sequence, first_empty, at_of, insert, filled}
-use Rattle.image.specs.Image.{Placed, in_table_lem, of_table, count, bucket_of, bucket_bytes, entries_before, has_id, placed_of_id, last_from, back_word, back_words}
+use Rattle.image.specs.Image.{Placed, in_table, of_table, count, bucket_of, bucket_bytes, entries_before, has_id, placed_of_id, last_from, back_word}
+use Rattle.image.specs.Image.{back_words}
 use Rattle.image.proofs.Words.{length_le32}
 use Rattle.image.proofs.Lists.{length_cat, filter_yes, filter_no, filter-append, length_range}
 use Rattle.image.proofs.Sizes.{of_table-append, filled_more, length-bucket_bytes}
@@ -54,13 +56,13 @@ module _ (rs : List Placed) (p : Placed) where
   unfolding of_table filter
   of_table_own =
       of_table-append (own_table p) rs (p ∷ [])
-      ∙ ap (λ (l : List Placed). of_table (own_table p) rs ++ l) (filter_yes (in_table_lem (own_table p)) p [] (eq-eqb (own_table p) (own_table p) refl))
+      ∙ ap (λ (l : List Placed). of_table (own_table p) rs ++ l) (filter_yes (in_table (own_table p)) p [] (eq-eqb (own_table p) (own_table p) refl))
 
   pub of_table_other : (t : ℕ) → (t ≡ own_table p → ⊥) → of_table t (rs ++ p ∷ []) ≡ of_table t rs
   unfolding of_table filter
   of_table_other t h =
       of_table-append t rs (p ∷ [])
-      ∙ ap (λ (l : List Placed). of_table t rs ++ l) (filter_no (in_table_lem t) p [] (ne_eqb (own_table p) t (λ z. h (sym z))))
+      ∙ ap (λ (l : List Placed). of_table t rs ++ l) (filter_no (in_table t) p [] (ne_eqb (own_table p) t (λ z. h (sym z))))
       ∙ append-nil (of_table t rs)
 
 module _ (ps rs : List Placed) (p : Placed) where

@@ -1,11 +1,12 @@
 -- Head and rows stored word by word, and a run of zeros. Assumes nothing.
-use Rattle.std.proofs.Common.{◌≡◌, ℕ, suc, ◌+◌, ◌-◌, ◌*◌, ◌%◌, ◌<◌, ◌≤◌, cond, eqb, List, [], ◌∷◌, ◌++◌, length, get_or, set, replicate, sym, refl, ap, ◌∙◌, ap₂, arith, length-append}
+use Rattle.std.proofs.Common.{◌≡◌, ℕ, suc, ◌+◌, ◌-◌, ◌*◌, ◌%◌, ◌<◌, ◌≤◌, cond, eqb, List, [], ◌∷◌, ◌++◌, length, get_or, set, replicate, sym, refl, ap, ◌∙◌}
+use Rattle.std.proofs.Common.{ap₂, arith, length-append}
 use lib.Seq.{sets}
 use Rattle.image.specs.Bytes.{le32}
 use Rattle.image.specs.Image.{head_bytes}
 use Rattle.image.proofs.Words.{length_le32}
 use Rattle.image.proofs.Stores.{sets_then}
-use Rattle.serialize.specs.Steps.Written.{rows_from_lem}
+use Rattle.serialize.specs.Steps.Written.{rows_from}
 
 -- a word's bytes are those of its low 32 bits
 pub le32_low : (w : ℕ) → le32 (w % 4294967296) ≡ le32 w
@@ -32,20 +33,20 @@ head_stored b size flag back at p q r s t u =
 -- ---- rows
 
 rows_suc : (counts : List ℕ) (o t m : ℕ)
-    → rows_from_lem counts o t (suc m)
-    ≡ le32 (cond (eqb (get_or counts t 0) 0) 0 o) ++ le32 (2 * get_or counts t 0) ++ rows_from_lem counts (o + 16 * get_or counts t 0) (suc t) m
-unfolding rows_from_lem
+    → rows_from counts o t (suc m)
+    ≡ le32 (cond (eqb (get_or counts t 0) 0) 0 o) ++ le32 (2 * get_or counts t 0) ++ rows_from counts (o + 16 * get_or counts t 0) (suc t) m
+unfolding rows_from
 rows_suc counts o t m = refl
 
 rows_step_at : (counts b b1 b2 x : List ℕ) (o t n r s : ℕ) → t < n
     → r ≡ cond (eqb (get_or counts t 0) 0) 0 o % 4294967296 → s ≡ (2 * get_or counts t 0) % 4294967296
     → b1 ≡ sets b (24 + 8 * t) (le32 r) → b2 ≡ sets b1 (28 + 8 * t) (le32 s)
-    → sets b (24 + 8 * t) (rows_from_lem counts o t (n - t)) ≡ x
-    → sets b2 (24 + 8 * (t + 1)) (rows_from_lem counts (o + 16 * get_or counts t 0) (t + 1) (n - (t + 1))) ≡ x
+    → sets b (24 + 8 * t) (rows_from counts o t (n - t)) ≡ x
+    → sets b2 (24 + 8 * (t + 1)) (rows_from counts (o + 16 * get_or counts t 0) (t + 1) (n - (t + 1))) ≡ x
 rows_step_at counts b b1 b2 x o t n r s h er es p q inv =
     let row = cond (eqb (get_or counts t 0) 0) 0 o in
     let two = 2 * get_or counts t 0 in
-    let more = rows_from_lem counts (o + 16 * get_or counts t 0) (suc t) (n - (t + 1)) in
+    let more = rows_from counts (o + 16 * get_or counts t 0) (suc t) (n - (t + 1)) in
     let lr : le32 r ≡ le32 row = ap le32 er ∙ le32_low row in
     let ls : le32 s ≡ le32 two = ap le32 es ∙ le32_low two in
     let m : n - t ≡ suc (n - (t + 1)) = omega arith in
@@ -57,26 +58,26 @@ rows_step_at counts b b1 b2 x o t n r s h er es p q inv =
     let stored : b2 ≡ sets b (24 + 8 * t) (le32 row ++ le32 two) =
     q ∙ ap₂ (λ (l : List ℕ) (v : List ℕ). sets l (28 + 8 * t) v) (p ∙ ap (λ (v : List ℕ). sets b (24 + 8 * t) v) lr) ls
     ∙ sets_then (le32 row) (le32 two) b (24 + 8 * t) (28 + 8 * t) at in
-    ap (λ (k : ℕ). sets b2 (24 + 8 * (t + 1)) (rows_from_lem counts (o + 16 * get_or counts t 0) k (n - (t + 1)))) (sym st)
+    ap (λ (k : ℕ). sets b2 (24 + 8 * (t + 1)) (rows_from counts (o + 16 * get_or counts t 0) k (n - (t + 1)))) (sym st)
     ∙ ap (λ (l : List ℕ). sets l (24 + 8 * (t + 1)) more) stored
     ∙ sets_then (le32 row ++ le32 two) more b (24 + 8 * t) (24 + 8 * (t + 1)) end
-    ∙ sym (ap (λ (v : List ℕ). sets b (24 + 8 * t) v) (ap (λ (k : ℕ). rows_from_lem counts o t k) m ∙ rows_suc counts o t (n - (t + 1))))
+    ∙ sym (ap (λ (v : List ℕ). sets b (24 + 8 * t) v) (ap (λ (k : ℕ). rows_from counts o t k) m ∙ rows_suc counts o t (n - (t + 1))))
     ∙ inv
 
 -- the same, as code reads the count
 pub rows_step : (counts b x : List ℕ) (o t n : ℕ) {b1 b2 : List ℕ} {r s count row : ℕ} → t < n → count ≡ get_or counts t 0
     → row ≡ cond (eqb count 0) 0 o → r ≡ row % 4294967296 → s ≡ (2 * count) % 4294967296
     → b1 ≡ sets b (24 + 8 * t) (le32 r) → b2 ≡ sets b1 (28 + 8 * t) (le32 s)
-    → sets b (24 + 8 * t) (rows_from_lem counts o t (n - t)) ≡ x
-    → sets b2 (24 + 8 * (t + 1)) (rows_from_lem counts (o + 16 * count) (t + 1) (n - (t + 1))) ≡ x
+    → sets b (24 + 8 * t) (rows_from counts o t (n - t)) ≡ x
+    → sets b2 (24 + 8 * (t + 1)) (rows_from counts (o + 16 * count) (t + 1) (n - (t + 1))) ≡ x
 rows_step counts b x o t n {b1} {b2} {r} {s} {count} {row} h e f er es p q inv =
-    ap (λ (k : ℕ). sets b2 (24 + 8 * (t + 1)) (rows_from_lem counts (o + 16 * k) (t + 1) (n - (t + 1)))) e
+    ap (λ (k : ℕ). sets b2 (24 + 8 * (t + 1)) (rows_from counts (o + 16 * k) (t + 1) (n - (t + 1)))) e
     ∙ rows_step_at counts b b1 b2 x o t n r s h
     (er ∙ ap (λ (k : ℕ). k % 4294967296) (f ∙ ap (λ (k : ℕ). cond (eqb k 0) 0 o) e))
     (es ∙ ap (λ (k : ℕ). (2 * k) % 4294967296) e) p q inv
 
-pub rows_end : (counts b x : List ℕ) (o t i : ℕ) → sets b i (rows_from_lem counts o t 0) ≡ x → b ≡ x
-unfolding rows_from_lem
+pub rows_end : (counts b x : List ℕ) (o t i : ℕ) → sets b i (rows_from counts o t 0) ≡ x → b ≡ x
+unfolding rows_from
 rows_end counts b x o t i p = p
 
 -- ---- zeros

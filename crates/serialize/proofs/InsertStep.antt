@@ -1,12 +1,13 @@
 -- One step of close's walk: the entry is found whole, and is inserted into its table and the back array. Assumes nothing.
-use Rattle.std.proofs.Common.{◌≡◌, ℕ, ◌+◌, ◌-◌, ◌*◌, ◌/◌, ◌^◌, ◌<◌, ◌≤◌, Bool, true, false, cond, leb, List, [], ◌∷◌, ◌++◌, map, length, get_or, take, drop, sym, refl, ap, ◌∙◌, subst, ap₂, append_assoc, mod-lt, arith, lit<, length-append, eq-eqb, ne_eqb, le-leb}
+use Rattle.std.proofs.Common.{◌≡◌, ℕ, ◌+◌, ◌-◌, ◌*◌, ◌/◌, ◌^◌, ◌<◌, ◌≤◌, Bool, true, false, cond, leb, List, [], ◌∷◌, ◌++◌, map, length, get_or, take, drop}
+use Rattle.std.proofs.Common.{sym, refl, ap, ◌∙◌, subst, ap₂, append_assoc, mod-lt, arith, lit<, length-append, eq-eqb, ne_eqb, le-leb}
 use lib.ListN.{length-map}
 use lib.Seq.{sets, get_or_at, take-append_seam}
 use Rattle.jhash.specs.NameHash.{hash_of}
 use Rattle.jhash.proofs.Outcomes.{hash_of_below}
 use Rattle.image.specs.Bytes.{word, le32, cat, range}
 use Rattle.image.specs.Tables.{Bucket, empty, table_of, start, probe_sequence, first_empty, at_of, Filled as TableIs}
-use Rattle.image.specs.Image.{Entry, Placed, head_size, entry_bytes, entry_size, entries_size, placed, in_table_lem, of_table, count, bucket_of, bucket_bytes}
+use Rattle.image.specs.Image.{Entry, Placed, head_size, entry_bytes, entry_size, entries_size, placed, in_table, of_table, count, bucket_of, bucket_bytes}
 use Rattle.image.specs.Image.{entries_before, table_offset, back_size, back_words, back_size_of, back_offset, entries_end, image_size}
 use Rattle.image.specs.declared.Mode.{Mode}
 use Rattle.image.specs.declared.Mode.TheVariants.{Twoway, Oneway}
@@ -225,13 +226,14 @@ module _ (mode : Mode) (es qs rest : List Entry) (e : Entry) (tail : List ℕ) (
   words_small k =
       filled_all Words (2 * count u ps) (map bucket_of (of_table u rs)) (omega arith, omega arith)
       (all_image Words bucket_of (λ q h. (hash_of_below q.entry.name, omega (arith, sizes))) (of_table u rs)
-      (all_filter (λ (q : Placed). q.at ≤ entries_end es) (in_table_lem u) rs (offsets head_size (entries_end es) qs (omega (arith, sizes))))) k
+      (all_filter (λ (q : Placed). q.at ≤ entries_end es) (in_table u) rs (offsets head_size (entries_end es) qs (omega (arith, sizes))))) k
 
   bucket_there : (k : ℕ) → k < 2 * count u ps → bucket_at B (entries_end es + 16 * entries_before u ps) k ≡ get_or (table_with ps rs u) k empty
   unfolding B ps rs tables_with
   bucket_there k h =
       bucket_read (entries_end es + 16 * entries_before u ps) k (get_or (table_with ps rs u) k empty)
-      (bucket_of_lem (placed_in es) (table_with ps rs) (length_table_with ps rs) (entries_end es) (tables_there mode es qs tail) u k u_below h) (words_small k)
+      (bucket_of_lem (placed_in es) (table_with ps rs) (length_table_with ps rs) (entries_end es) (tables_there mode es qs tail) u k u_below h)
+      (words_small k)
 
   slot_there : first_empty (offset_at B (entries_end es + 16 * entries_before u ps))
       (probe_sequence (2 * count u ps) (2 * count u ps) (start (hash_of e.name) (2 * count u ps)))
@@ -289,7 +291,7 @@ module _ (mode : Mode) (es qs rest : List Entry) (e : Entry) (tail : List ℕ) (
       subst (λ (f : List ℕ). All (λ (x : Bucket). x.hash ≡ h → same_names f at x.at ≡ false) (map bucket_of (of_table u rs))) front_there
       (none_equal table_held (omega arith) h v (omega arith)
       (all_image (λ (b : Bucket). b.at ≡ 0 → ⊥) bucket_of (λ q l z. omega arith) (of_table u rs)
-      (all_filter (λ (q : Placed). head_size ≤ q.at) (in_table_lem u) rs (above head_size qs)))
+      (all_filter (λ (q : Placed). head_size ≤ q.at) (in_table u) rs (above head_size qs)))
       there)
 
   -- ---- the buffer with its pair, and with its offset in the back array
@@ -297,7 +299,8 @@ module _ (mode : Mode) (es qs rest : List Entry) (e : Entry) (tail : List ℕ) (
   U : List ℕ
   U = up_to_entries mode es
 
-  with_pair : inserted_by_row B (hash_of e.name) (head_size + entries_size qs) ≡ U ++ tables_with ps (rs ++ p ∷ []) ++ back_words rs (back_size_of mode es) ++ tail
+  with_pair : inserted_by_row B (hash_of e.name) (head_size + entries_size qs) ≡ U ++ tables_with ps (rs ++ p ∷ [])
+      ++ back_words rs (back_size_of mode es) ++ tail
   unfolding inserted_by_row inserted bucket_bytes partial B U ps rs u p
   with_pair =
       let h = hash_of e.name in

@@ -1,6 +1,7 @@
 -- A pair inserted into its table, an entry into its table and the back array, and entries one after the other.
 -- Assumes nothing.
-use Rattle.std.proofs.Common.{◌≡◌, ℕ, suc, ◌+◌, ◌-◌, ◌*◌, ◌%◌, ◌<◌, ◌≤◌, Bool, true, false, cond, ◌&&◌, ◌||◌, eqb, leb, List, ◌++◌, length, take, drop, replicate, sym, ap, ◌∙◌, subst, ap₂, arith, eq-eqb, ne_eqb, leb-true}
+use Rattle.std.proofs.Common.{◌≡◌, ℕ, suc, ◌+◌, ◌-◌, ◌*◌, ◌%◌, ◌<◌, ◌≤◌, Bool, true, false, cond, ◌&&◌, ◌||◌, eqb, leb, List, ◌++◌, length, take, drop}
+use Rattle.std.proofs.Common.{replicate, sym, ap, ◌∙◌, subst, ap₂, arith, eq-eqb, ne_eqb, leb-true}
 use lib.Seq.{sets}
 use Rattle.image.specs.Bytes.{word, le32}
 use Rattle.image.specs.declared.Mode.{Mode}
@@ -85,13 +86,15 @@ module _ (buf : List ℕ) (h at : ℕ) {o n : ℕ} {b : Bool} (is-o : o ≡ word
   row_inserted end holds p =
       record {
         leaves = p.stored ∙ sym (ap (λ (t : Bool). cond t (inserted buf o n h at) buf) holds) ∙ by_row;
-        unmet = λ z. subst (λ (x : ℕ). Unmet buf end x (word buf (28 + 8 * (h % 256))) h at) is-o (subst (λ (y : ℕ). Unmet buf end o y h at) is-n (p.unmet z));
+        unmet = λ z. subst (λ (x : ℕ). Unmet buf end x (word buf (28 + 8 * (h % 256))) h at) is-o
+            (subst (λ (y : ℕ). Unmet buf end o y h at) is-n (p.unmet z));
       }
 
 -- ---- an entry
 
 pub entry_inserted_lem : (mode : Mode) (back_offset_lem : ℕ) (buf : List ℕ) (end at n : ℕ) {id h : ℕ} {b1 b2 : List ℕ} {met : Bool} → id ≡ word buf at
-    → h ≡ entry_hash buf at n → RowInserted buf end h at b1 met → b2 ≡ back_stored mode b1 back_offset_lem id at → EntryInserted mode back_offset_lem buf end at n b2 met
+    → h ≡ entry_hash buf at n → RowInserted buf end h at b1 met → b2 ≡ back_stored mode b1 back_offset_lem id at
+    → EntryInserted mode back_offset_lem buf end at n b2 met
 unfolding entry_inserted
 entry_inserted_lem mode back_offset_lem buf end at n ei eh p q =
     record {
@@ -104,7 +107,8 @@ entry_inserted_lem mode back_offset_lem buf end at n ei eh p q =
 -- ---- a walk over the entries
 
 -- a whole entry lies before the end
-pub entry_in : {back_offset_lem end : ℕ} {buf₀ : List ℕ} → InsertEntriesPre back_offset_lem end buf₀ → (buf : List ℕ) → length buf ≡ length buf₀ → (at n : ℕ) → at ≤ end
+pub entry_in : {back_offset_lem end : ℕ} {buf₀ : List ℕ} → InsertEntriesPre back_offset_lem end buf₀ → (buf : List ℕ) → length buf ≡ length buf₀
+    → (at n : ℕ) → at ≤ end
     → n ≡ whole_length (between buf at end) → n < 4294967296 → (n ≡ 0 → ⊥) → (at + (8 + n) ≤ end) × EntryPre at n buf
 entry_in {back_offset_lem} {end} pre buf long at n before is small some =
     let r = entry_room buf at end n before (omega (arith, pre.inside)) is some in
@@ -134,7 +138,8 @@ module _ {mode : Mode} {back_offset_lem end entries : ℕ} {buf₀ buf : List �
 
     -- the first meets none, and then the others
     abbrev Both : ℕ → Type 0
-    Both k = RowUnmet buf end (entry_hash buf at k) at × UnmetFrom mode back_offset_lem end (left - 1) (at + (8 + k)) (entry_inserted mode back_offset_lem buf at k)
+    Both k = RowUnmet buf end (entry_hash buf at k) at × UnmetFrom mode back_offset_lem end (left - 1) (at + (8 + k))
+        (entry_inserted mode back_offset_lem buf at k)
 
     unmet_next : met ≡ false → Both n → UnmetFrom mode back_offset_lem end entries 2072 buf₀
     unmet_next z two =
@@ -142,7 +147,8 @@ module _ {mode : Mode} {back_offset_lem end entries : ℕ} {buf₀ buf : List �
         inv.unmet z (subst (λ (k : ℕ). UnmetFrom mode back_offset_lem end k at buf) m (subst Both is two))
 
     pub inserted_step : (n ≡ 0 → ⊥) → at + (8 + n) ≤ end → (buf' : List ℕ) → length buf' ≡ length buf → {one : Bool}
-        → EntryInserted mode back_offset_lem buf end at n buf' one → Inserting mode back_offset_lem end entries buf₀ buf' (at + (8 + n)) (left - 1) (met || one)
+        → EntryInserted mode back_offset_lem buf end at n buf' one → Inserting mode back_offset_lem end entries buf₀ buf' (at + (8 + n)) (left - 1)
+        (met || one)
     inserted_step some before buf' same {one} done = record {
       inside = before;
       long = same ∙ inv.long;

@@ -1,6 +1,7 @@
 -- The steps of inserting by tables: where the tables begin, the entries partitioned one after the other, and the
 -- tables filled one after the other. Assumes nothing.
-use Rattle.std.proofs.Common.{◌≡◌, ℕ, suc, ◌+◌, ◌-◌, ◌*◌, ◌%◌, ◌<◌, ◌≤◌, Bool, cond, eqb, leb, List, ◌++◌, length, get_or, take, set, sym, refl, ap, ◌∙◌, subst, ap₂, arith, eq-eqb, ne_eqb, le-leb}
+use Rattle.std.proofs.Common.{◌≡◌, ℕ, suc, ◌+◌, ◌-◌, ◌*◌, ◌%◌, ◌<◌, ◌≤◌, Bool, cond, eqb, leb, List, ◌++◌, length, get_or, take, set, sym, refl, ap, ◌∙◌}
+use Rattle.std.proofs.Common.{subst, ap₂, arith, eq-eqb, ne_eqb, le-leb}
 use lib.Seq.{sets}
 use borrow.Author.Tests.{lt-leb}
 use Rattle.image.specs.Bytes.{word, le32, cat}
@@ -119,7 +120,8 @@ front_kept buf end o c behind =
 
 -- one table more is apart
 pub apart_next : (front counts buf : List ℕ) (o t n c : ℕ) {buf' : List ℕ} {X : Type 0} → t < n → c ≡ get_or counts t 0 → buf' ≡ table_filled buf o c
-    → (TablesApart front counts o t (n - t) buf → X) → Apart front (pairs_stored buf o c) → TablesApart front counts (o + 16 * c) (t + 1) (n - (t + 1)) buf' → X
+    → (TablesApart front counts o t (n - t) buf → X) → Apart front (pairs_stored buf o c)
+    → TablesApart front counts (o + 16 * c) (t + 1) (n - (t + 1)) buf' → X
 apart_next front counts buf o t n c {buf'} {X} h ec e inv one rest =
     let m : suc (n - (t + 1)) ≡ n - t = omega arith in
     let st : t + 1 ≡ suc t = omega arith in

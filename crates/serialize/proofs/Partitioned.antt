@@ -1,6 +1,8 @@
 -- The entries partitioned: what the steps leave, from the cleared back array to the pairs of all entries. Assumes
 -- nothing.
-use Rattle.std.proofs.Common.{◌≡◌, ℕ, zero, suc, ◌+◌, ◌*◌, ◌%◌, ◌^◌, ◌<◌, ◌≤◌, Bool, cond, eqb, List, [], ◌∷◌, ◌++◌, length, get_or, set, replicate, sym, refl, ap, ◌∙◌, ap₂, append_assoc, append-nil, mod-eq_of_lt, arith, length-append, length-set, get_or-set_other, get_or-set_same, ne_eqb, le-leb}
+use Rattle.std.proofs.Common.{◌≡◌, ℕ, zero, suc, ◌+◌, ◌*◌, ◌%◌, ◌^◌, ◌<◌, ◌≤◌, Bool, cond, eqb, List, [], ◌∷◌, ◌++◌, length, get_or, set, replicate, sym}
+use Rattle.std.proofs.Common.{refl, ap, ◌∙◌, ap₂, append_assoc, append-nil, mod-eq_of_lt, arith, length-append, length-set, get_or-set_other, get_or-set_same}
+use Rattle.std.proofs.Common.{ne_eqb, le-leb}
 use native.Mathlib.Decide.{ℕ_discrete}
 use lib.ListN.{length-replicate}
 use lib.Seq.{sets}
@@ -91,7 +93,8 @@ halfway mode F es X qs tail =
     F ++ cat (area_with (placed_in es) X (placed_in qs)) (range 0 256) ++ back_words (placed_in qs) (back_size_of mode es) ++ tail
 
 -- the pairs have their room, whatever stands before them
-module _ (mode : Mode) (F : List ℕ) (es : List Entry) (X tail : List ℕ) (front : length F ≡ entries_end es) (long : length X ≡ 16 * length (placed_in es)) where
+module _ (mode : Mode) (F : List ℕ) (es : List Entry) (X tail : List ℕ) (front : length F ≡ entries_end es)
+    (long : length X ≡ 16 * length (placed_in es)) where
   ps : List Placed
   ps = placed_in es
 

@@ -1,6 +1,8 @@
 -- One table filled from its pairs: they are copied, its buckets are cleared, and each pair goes in its order into the
 -- first empty bucket of its search. Assumes nothing.
-use Rattle.std.proofs.Common.{◌≡◌, ℕ, zero, suc, ◌+◌, ◌-◌, ◌*◌, ◌/◌, ◌<◌, ◌≤◌, Bool, true, false, cond, ◌||◌, leb, List, [], ◌∷◌, ◌++◌, length, get_or, take, drop, set, replicate, sym, refl, ap, ◌∙◌, subst, ap₂, append-nil, mod-lt, arith, length-append, length-set, length-take-le, get_or-set_other, get_or-set_same, le-leb}
+use Rattle.std.proofs.Common.{◌≡◌, ℕ, zero, suc, ◌+◌, ◌-◌, ◌*◌, ◌/◌, ◌<◌, ◌≤◌, Bool, true, false, cond, ◌||◌, leb, List, [], ◌∷◌, ◌++◌, length, get_or, take}
+use Rattle.std.proofs.Common.{drop, set, replicate, sym, refl, ap, ◌∙◌, subst, ap₂, append-nil, mod-lt, arith, length-append, length-set, length-take-le}
+use Rattle.std.proofs.Common.{get_or-set_other, get_or-set_same, le-leb}
 use native.Mathlib.Decide.{ℕ_discrete}
 use lib.ListN.{length-replicate}
 use lib.Seq.{sets, sets-eq, length-sets}

@@ -1,12 +1,13 @@
 -- The tables filled one after the other from their pairs, up to the image. Assumes nothing.
-use Rattle.std.proofs.Common.{◌≡◌, ℕ, zero, suc, ◌+◌, ◌*◌, ◌^◌, ◌<◌, ◌≤◌, Bool, true, cond, ltb, leb, List, [], ◌++◌, map, length, take, replicate, sym, refl, ap, ◌∙◌, ap₂, append_assoc, append-nil, arith, length-append, le-ltb, lt-ltb, le-leb}
+use Rattle.std.proofs.Common.{◌≡◌, ℕ, zero, suc, ◌+◌, ◌*◌, ◌^◌, ◌<◌, ◌≤◌, Bool, true, cond, ltb, leb, List, [], ◌++◌, map, length, take, replicate, sym, refl}
+use Rattle.std.proofs.Common.{ap, ◌∙◌, ap₂, append_assoc, append-nil, arith, length-append, le-ltb, lt-ltb, le-leb}
 use native.Mathlib.Decide.{dec_lt}
 use lib.ListN.{length-map}
 use lib.Seq.{sets, take-append_seam}
 use Rattle.jhash.proofs.Outcomes.{hash_of_below}
 use Rattle.image.specs.Bytes.{cat, range}
 use Rattle.image.specs.Tables.{Bucket, filled}
-use Rattle.image.specs.Image.{Entry, Placed, head_size, entries_size, placed, in_table_lem, of_table, count, bucket_of, bucket_bytes, table, table_bytes, tables}
+use Rattle.image.specs.Image.{Entry, Placed, head_size, entries_size, placed, in_table, of_table, count, bucket_of, bucket_bytes, table, table_bytes, tables}
 use Rattle.image.specs.Image.{entries_before, back_words, back_size_of, back_offset, entries_end, image_size, image}
 use Rattle.image.specs.declared.Mode.{Mode}
 use Rattle.image.proofs.Lists.{cat_ext, cat_run}
@@ -100,7 +101,7 @@ module _ (mode : Mode) (es : List Entry) (X tail : List ℕ) (long : length X �
     unfolding bs ps of_table
     words =
         all_image Words bucket_of (λ q h. (hash_of_below q.entry.name, omega arith)) (of_table t (placed_in es))
-        (all_filter (λ (q : Placed). q.at ≤ entries_end es) (in_table_lem t) (placed_in es) (offsets head_size (entries_end es) es (omega arith)))
+        (all_filter (λ (q : Placed). q.at ≤ entries_end es) (in_table t) (placed_in es) (offsets head_size (entries_end es) es (omega arith)))
 
     pub pairs_are : pairs_stored (filled_to mode es X t tail) (entries_end es + 16 * entries_before t (placed_in es)) (count t (placed_in es))
         ≡ map bucket_of (of_table t (placed_in es))

@@ -6,7 +6,7 @@ use Rattle.image.specs.Image.{back_in, flag_word, head_bytes}
 use Rattle.image.specs.declared.Mode.{Mode}
 use Rattle.image.specs.declared.Mode.TheVariants.{Twoway, Oneway}
 use Rattle.serialize.specs.Record.{finished_of, none_above}
-use Rattle.serialize.specs.Steps.Written.{rows_from_lem, back_offset_of, headed, zeroed, begun_image, by_tables}
+use Rattle.serialize.specs.Steps.Written.{rows_from, back_offset_of, headed, zeroed, begun_image, by_tables}
 use Rattle.serialize.proofs.Choices.{cond_holds}
 
 pub back_in_le : (mode : Mode) (n : ℕ) → back_in mode n ≤ n
@@ -30,7 +30,7 @@ module _ (mode : Mode) (end entries back : ℕ) where
   -- head and rows
   pub headed_parts : (counts buf b1 b2 : List ℕ) (n f k l : ℕ)
       → n ≡ finished_of mode end entries back → f ≡ flag_word mode → k ≡ back_in mode back → l ≡ back_offset_of mode end entries back
-      → b1 ≡ sets buf 0 (head_bytes n f k l) → b2 ≡ sets b1 24 (rows_from_lem counts end 0 256) → b2 ≡ headed mode end entries back counts buf
+      → b1 ≡ sets buf 0 (head_bytes n f k l) → b2 ≡ sets b1 24 (rows_from counts end 0 256) → b2 ≡ headed mode end entries back counts buf
   unfolding headed
   headed_parts counts buf b1 b2 n f k l en ef ek el p q =
       let size = finished_of mode end entries back in
@@ -38,7 +38,7 @@ module _ (mode : Mode) (end entries back : ℕ) where
       let first : b1 ≡ sets buf 0 (head_bytes size (flag_word mode) (back_in mode back) back_at) =
       p ∙ ap (λ (x : ℕ). sets buf 0 (head_bytes x f k l)) en ∙ ap (λ (x : ℕ). sets buf 0 (head_bytes size x k l)) ef
       ∙ ap₂ (λ (x : ℕ) (y : ℕ). sets buf 0 (head_bytes size (flag_word mode) x y)) ek el in
-      q ∙ ap (λ (x : List ℕ). sets x 24 (rows_from_lem counts end 0 256)) first
+      q ∙ ap (λ (x : List ℕ). sets x 24 (rows_from counts end 0 256)) first
 
   -- and the back array cleared
   pub begun_parts : (counts buf : List ℕ) {b1 b2 : List ℕ} {n : ℕ} → b1 ≡ headed mode end entries back counts buf → n ≡ finished_of mode end entries back

@@ -1,8 +1,10 @@
 -- All that is written is the image of the entries that stand in the buffer. Assumes nothing.
-use Rattle.std.proofs.Common.{◌≡◌, ℕ, ◌+◌, ◌-◌, ◌*◌, ◌^◌, ◌<◌, ◌≤◌, Bool, true, false, cond, ◌&&◌, eqb, List, [], ◌∷◌, ◌++◌, length, take, drop, replicate, sym, refl, ap, ◌∙◌, subst, ⊎_elim, append_assoc, append-nil, arith, length-append, length-drop, length-take, ne_eqb}
+use Rattle.std.proofs.Common.{◌≡◌, ℕ, ◌+◌, ◌-◌, ◌*◌, ◌^◌, ◌<◌, ◌≤◌, Bool, true, false, cond, ◌&&◌, eqb, List, [], ◌∷◌, ◌++◌, length, take, drop, replicate}
+use Rattle.std.proofs.Common.{sym, refl, ap, ◌∙◌, subst, ⊎_elim, append_assoc, append-nil, arith, length-append, length-drop, length-take, ne_eqb}
 use lib.Seq.{sets}
 use Rattle.image.specs.Bytes.{cat, range}
-use Rattle.image.specs.Image.{Entry, head_size, entry_bytes, entries_size, head_words, table_rows, back_words, back_size_of, back_offset, entries_end, image_size, image}
+use Rattle.image.specs.Image.{Entry, head_size, entry_bytes, entries_size, head_words, table_rows, back_words, back_size_of, back_offset, entries_end}
+use Rattle.image.specs.Image.{image_size, image}
 use Rattle.image.specs.declared.Mode.{Mode}
 use Rattle.image.proofs.Sizes.{length_entries, length_placed, length-back_words}
 use Rattle.image.proofs.Between.{length_between}
@@ -70,7 +72,8 @@ module _ (mode : Mode) (es : List Entry) (tail : List ℕ) (small : image_size m
       }
 
   -- the tables from their pairs, or one by one
-  pub all_imaged : (X counts : List ℕ) → length X ≡ 16 * length (placed_in es) → Counts counts (placed_in es) → {stop : Bool} {buf after : List ℕ} {met : Bool}
+  pub all_imaged : (X counts : List ℕ) → length X ≡ 16 * length (placed_in es) → Counts counts (placed_in es)
+      → {stop : Bool} {buf after : List ℕ} {met : Bool}
       → buf ≡ filled_to mode es X 0 tail
       → AllDone stop mode (back_offset mode es) (entries_end es) (length es) (image_size mode es) counts buf after met → Imaged stop mode es tail after met
   unfolding filled_to
@@ -174,7 +177,8 @@ module _ (mode : Mode) (end entries back : ℕ) (counts buf : List ℕ) (bytes :
 
   -- one by one
   pub written_singly : {b0 after : List ℕ} {n l : ℕ} {met : Bool} → n ≡ finished_of mode end entries back → l ≡ back_offset_of mode end entries back
-      → b0 ≡ begun_image mode end entries back counts buf → SinglyDone false mode l end entries n b0 after met → ImageWritten mode end entries back buf after met
+      → b0 ≡ begun_image mode end entries back counts buf → SinglyDone false mode l end entries n b0 after met
+      → ImageWritten mode end entries back buf after met
   written_singly {b0} en el eb done =
       let L = back_words [] (back_size_of mode es) in
       let long = length-back_words [] (back_size_of mode es) in
@@ -184,7 +188,8 @@ module _ (mode : Mode) (end entries back : ℕ) (counts buf : List ℕ) (bytes :
       (en ∙ size_is mode end entries back counts buf es numbers) b0 done))
 
   -- by tables
-  pub written_by_tables : {b0 b1 places after : List ℕ} {n l : ℕ} {met : Bool} → n ≡ finished_of mode end entries back → l ≡ back_offset_of mode end entries back
+  pub written_by_tables : {b0 b1 places after : List ℕ} {n l : ℕ} {met : Bool} → n ≡ finished_of mode end entries back → l
+      ≡ back_offset_of mode end entries back
       → b0 ≡ begun_image mode end entries back counts buf → places ≡ sets (replicate 256 0) 0 (table_offsets_from counts end 0 256)
       → b1 ≡ partitioned_from mode l end entries 2072 places b0 → AllDone false mode l end entries n counts b1 after met
       → ImageWritten mode end entries back buf after met

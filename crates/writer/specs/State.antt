@@ -60,7 +60,8 @@ begin_refusal n = cond (ltb n head_size) refused.too_short 0
 
 -- what begin answers: the fresh record, or only the refusal's number
 unfoldable pub beginning : Mode → Repeats → ℕ → Outcome CQDBWriter
-beginning mode repeats n = cond (eqb (begin_refusal n) 0) (value (fresh_writer mode repeats n)) (refusal (begin_refusal n))
+beginning mode repeats n = cond (eqb (begin_refusal n) 0) (value (fresh_writer mode repeats n))
+    (refusal (begin_refusal n))
 
 -- the table counts of a fresh record; a refused begin leaves what was lent for them as it was
 unfoldable pub counts_begun : ℕ → List ℕ → List ℕ

@@ -29,7 +29,8 @@ room c =
 pub returns-then-not-by_tables : goal.returns-then-not-by_tables
 returns-then-not-by_tables c =
     let a = c.args in
-    written_singly a.mode a.end a.entries a.back a.counts.now a.buf.now (bytes (goal.at.returns-then-not-by_tables c).After-back_offset-back_offset) c.requires
+    written_singly a.mode a.end a.entries a.back a.counts.now a.buf.now
+    (bytes (goal.at.returns-then-not-by_tables c).After-back_offset-back_offset) c.requires
     c.finished_size-size.ensures c.back_offset-back_offset.ensures c.begin_image.ensures.image c.insert_singly.ensures
 
 pub partition_entries-requires : goal.partition_entries-requires

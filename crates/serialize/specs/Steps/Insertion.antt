@@ -1,6 +1,7 @@
 -- What inserting entries one by one into tables and back array leaves, as the code goes. No rule of 01 stands here:
 -- proofs/ shows that all steps together leave the image.
-use Rattle.std.specs.Prelude.{ℕ, zero, suc, ◌+◌, ◌-◌, ◌*◌, ◌<◌, ◌≤◌, Bool, cond, ◌&&◌, List, ◌++◌, length, take, drop, ◌==◌, nat_le}
+use Rattle.std.specs.Prelude.{ℕ, zero, suc, ◌+◌, ◌-◌, ◌*◌, ◌<◌, ◌≤◌, Bool, cond, ◌&&◌, List, ◌++◌, length, take, drop}
+use Rattle.std.specs.Prelude.{◌==◌, nat_le}
 use Rattle.std.proofs.lemmas.List.Edits.{sets}
 use Rattle.jhash.specs.NameHash.{hash_of}
 use Rattle.image.specs.Bytes.{word, le32}
@@ -77,4 +78,5 @@ unfoldable pub inserted_from : Mode → ℕ → ℕ → ℕ → ℕ → List ℕ
 inserted_from mode back_offset_lem end zero at buf = buf
 inserted_from mode back_offset_lem end (suc m) at buf =
     let n = whole_length (between buf at end) in
-    cond (n == 0) buf (inserted_from mode back_offset_lem end m (at + (8 + n)) (entry_inserted mode back_offset_lem buf at n))
+    cond (n == 0) buf (inserted_from mode back_offset_lem end m (at + (8 + n))
+    (entry_inserted mode back_offset_lem buf at n))

@@ -1,7 +1,8 @@
 -- Whether two entries of equal name meet while the tables are filled: what each step leaves, as the code goes, and what
 -- holds if it has met none. With `stop` a step ends where an entry meets one of equal name, and then nothing is said of
 -- what it leaves. No rule of 01 stands here.
-use Rattle.std.specs.Prelude.{◌≡◌, ℕ, zero, suc, ◌+◌, ◌-◌, ◌*◌, ◌<◌, ◌≤◌, Bool, false, ◌&&◌, ◌⊎◌, List, [], ◌∷◌, length, take, drop, ◌≢◌, slice_index}
+use Rattle.std.specs.Prelude.{◌≡◌, ℕ, zero, suc, ◌+◌, ◌-◌, ◌*◌, ◌<◌, ◌≤◌, Bool, false, ◌&&◌, ◌⊎◌, List, [], ◌∷◌}
+use Rattle.std.specs.Prelude.{length, take, drop, ◌≢◌, slice_index}
 use Rattle.image.specs.Bytes.{word, same, Each}
 use Rattle.image.specs.Head.{table_at, bucket_number}
 use Rattle.image.specs.Tables.{Bucket, table_of, start, probe_sequence, first_empty}
@@ -93,7 +94,8 @@ UnmetFrom mode back_offset_lem end (suc m) at buf =
     RowUnmet buf end (entry_hash buf at n) at
     × UnmetFrom mode back_offset_lem end m (at + (8 + n)) (entry_inserted mode back_offset_lem buf at n)
 
-pub record EntriesInserted (stop : Bool) (mode : Mode) (back_offset_lem end entries : ℕ) (buf after : List ℕ) (met : Bool)
+pub record EntriesInserted (stop : Bool) (mode : Mode) (back_offset_lem end entries : ℕ) (buf after : List ℕ)
+    (met : Bool)
     : Type 0 where
   pub leaves : (stop && met) ≡ false → after ≡ inserted_from mode back_offset_lem end entries head_size buf
   pub unmet : met ≡ false → UnmetFrom mode back_offset_lem end entries head_size buf

@@ -1,7 +1,8 @@
 -- What the steps of partitioning and of filling the tables leave, as the code goes: the pairs of hash and offset by
 -- table, each table's in put order where the table will stand, and then each table filled from its pairs. No rule of 01
 -- stands here: proofs/ shows that they leave the image.
-use Rattle.std.specs.Prelude.{◌≡◌, ℕ, zero, suc, ◌+◌, ◌*◌, ◌%◌, ◌<◌, ◌≤◌, cond, List, [], ◌∷◌, ◌++◌, length, ◌==◌, nat_le, slice_index, slice_set}
+use Rattle.std.specs.Prelude.{◌≡◌, ℕ, zero, suc, ◌+◌, ◌*◌, ◌%◌, ◌<◌, ◌≤◌, cond, List, [], ◌∷◌, ◌++◌, length, ◌==◌}
+use Rattle.std.specs.Prelude.{nat_le, slice_index, slice_set}
 use Rattle.std.proofs.lemmas.List.Edits.{sets}
 use Rattle.image.specs.Bytes.{word, le32, cat}
 use Rattle.image.specs.Tables.{Bucket, table_of, filled}
@@ -16,7 +17,8 @@ use Rattle.serialize.specs.Steps.Insertion.{entry_hash, back_stored}
 -- where the m tables from t on begin, in 32 bits; the first begins at o, and a table of c entries has 2c buckets
 unfoldable pub table_offsets_from : List ℕ → ℕ → ℕ → ℕ → List ℕ
 table_offsets_from counts o t zero = []
-table_offsets_from counts o t (suc m) = o % 4294967296 ∷ table_offsets_from counts (o + 16 * slice_index counts t) (suc t) m
+table_offsets_from counts o t (suc m) = o % 4294967296 ∷ table_offsets_from counts
+    (o + 16 * slice_index counts t) (suc t) m
 
 -- a pair stored where the buffer has room for it
 abbrev pub pair_put : List ℕ → ℕ → ℕ → ℕ → List ℕ
@@ -66,7 +68,11 @@ table_stored buf o c pairs = sets buf o (cat bucket_bytes (filled (2 * c) pairs)
 -- the first c pairs of a copy
 unfoldable pub pairs_in : List ℕ → ℕ → List Bucket
 pairs_in copy zero = []
-pairs_in copy (suc c) = pairs_in copy c ++ (record { hash = slice_index copy (2 * c); at = slice_index copy (2 * c + 1) } ∷ [])
+pairs_in copy (suc c) = pairs_in copy c ++ (record {
+  hash = slice_index copy (2 * c);
+  at = slice_index copy
+      (2 * c + 1);
+} ∷ [])
 
 -- the copy has room for c pairs, which stand at o
 pub record CopyPairsPre (copy buf : List ℕ) (o c : ℕ) : Type 0 where

@@ -1,6 +1,7 @@
 -- All that is written around the entries. No rule of 01 stands here: proofs/ shows that it is the image that
 -- specs/Serialize says.
-use Rattle.std.specs.Prelude.{◌≡◌, ℕ, zero, suc, ◌+◌, ◌-◌, ◌*◌, ◌<◌, ◌≤◌, Bool, cond, ◌&&◌, List, [], ◌++◌, length, replicate, ◌==◌, nat_le, slice_index}
+use Rattle.std.specs.Prelude.{◌≡◌, ℕ, zero, suc, ◌+◌, ◌-◌, ◌*◌, ◌<◌, ◌≤◌, Bool, cond, ◌&&◌, List, [], ◌++◌, length}
+use Rattle.std.specs.Prelude.{replicate, ◌==◌, nat_le, slice_index}
 use Rattle.std.proofs.lemmas.List.Edits.{sets}
 use Rattle.image.specs.Bytes.{le32}
 use Rattle.image.specs.Image.{head_size, head_bytes, flag_word, back_in}
@@ -9,12 +10,12 @@ use Rattle.serialize.specs.Record.{finished_of, none_above}
 use Rattle.serialize.specs.Steps.Partition.{table_offsets_from}
 
 -- the rows of the m tables from t on, of which the first with entries begins at o
-unfoldable pub rows_from_lem : List ℕ → ℕ → ℕ → ℕ → List ℕ
-rows_from_lem counts o t zero = []
-rows_from_lem counts o t (suc m) =
+unfoldable pub rows_from : List ℕ → ℕ → ℕ → ℕ → List ℕ
+rows_from counts o t zero = []
+rows_from counts o t (suc m) =
     le32 (cond (slice_index counts t == 0) 0 o)
     ++ le32 (2 * slice_index counts t)
-    ++ rows_from_lem counts (o + 16 * slice_index counts t) (suc t) m
+    ++ rows_from counts (o + 16 * slice_index counts t) (suc t) m
 
 -- where the back array begins, 0 where there is none
 unfoldable pub back_offset_of : Mode → ℕ → ℕ → ℕ → ℕ
@@ -25,7 +26,7 @@ unfoldable pub headed : Mode → ℕ → ℕ → ℕ → List ℕ → List ℕ �
 headed mode end entries back counts buf =
     let size = finished_of mode end entries back in
     let head = head_bytes size (flag_word mode) (back_in mode back) (back_offset_of mode end entries back) in
-    sets (sets buf 0 head) 24 (rows_from_lem counts end 0 256)
+    sets (sets buf 0 head) 24 (rows_from counts end 0 256)
 
 -- zeros from one place to another
 unfoldable pub zeroed : List ℕ → ℕ → ℕ → List ℕ
@@ -33,7 +34,7 @@ zeroed buf from to = sets buf from (replicate (to - from) 0)
 
 -- rows, and where the tables begin
 pub record RowsWritten (counts : List ℕ) (end : ℕ) (buf places buf' places' : List ℕ) : Type 0 where
-  pub rows : buf' ≡ sets buf 24 (rows_from_lem counts end 0 256)
+  pub rows : buf' ≡ sets buf 24 (rows_from counts end 0 256)
   pub begins : places' ≡ sets places 0 (table_offsets_from counts end 0 256)
 
 -- the image lies in the buffer

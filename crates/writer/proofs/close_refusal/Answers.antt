@@ -32,11 +32,13 @@ returns-then-not-agrees c =
 
 pub returns : goal.returns
 returns c =
-    due_none (state_with c.args.w c.args.counts.now c.args.buf.now) (fitted (goal.at.returns c).Else-not-fits) (sized (goal.at.returns c).After-too_large ∙ c.if-too_large.false)
+    due_none (state_with c.args.w c.args.counts.now c.args.buf.now) (fitted (goal.at.returns c).Else-not-fits)
+    (sized (goal.at.returns c).After-too_large ∙ c.if-too_large.false)
     (sym c.agrees.ensures ∙ c.if-not-agrees.false)
 
 pub returns-then-not-fits : goal.returns-then-not-fits
 returns-then-not-fits c = due_unfit (state_with c.args.w c.args.counts.now c.args.buf.now) (sym c.fits.ensures ∙ c.if-not-fits.true)
 
 pub returns-then-too_large : goal.returns-then-too_large
-returns-then-too_large c = due_big (state_with c.args.w c.args.counts.now c.args.buf.now) (fitted (goal.at.returns-then-too_large c).Else-not-fits) (sized (goal.at.returns-then-too_large c).After-too_large ∙ c.if-too_large.true)
+returns-then-too_large c = due_big (state_with c.args.w c.args.counts.now c.args.buf.now) (fitted (goal.at.returns-then-too_large c).Else-not-fits)
+    (sized (goal.at.returns-then-too_large c).After-too_large ∙ c.if-too_large.true)

@@ -37,8 +37,11 @@ append-requires c =
     let n = length a.name.now in
     record {
       hash = (result_name_hash a.name.now hashed.result c.in-Hash.h hashed.ensures c.in-Hash.is).1;
-      count = count_small a.w a.counts.now a.buf.now n a.id (went (goal.at.append-requires c).Start).fitted (went (goal.at.append-requires c).Start).has_capacity c.in-Hash.h;
-      entry = entry_fits a.w a.counts.now a.buf.now n a.id (went (goal.at.append-requires c).Start).fitted (went (goal.at.append-requires c).Start).has_capacity;
+      count = count_small a.w a.counts.now a.buf.now n a.id (went (goal.at.append-requires c).Start).fitted
+          (went (goal.at.append-requires c).Start).has_capacity c.in-Hash.h;
+      entry = entry_fits a.w a.counts.now a.buf.now n a.id (went (goal.at.append-requires c).Start).fitted
+          (went (goal.at.append-requires c).Start).has_capacity;
       short = short (goal.at.append-requires c).Start;
-      size = size_small a.w a.counts.now a.buf.now n a.id (went (goal.at.append-requires c).Start).fitted (went (goal.at.append-requires c).Start).has_capacity;
+      size = size_small a.w a.counts.now a.buf.now n a.id (went (goal.at.append-requires c).Start).fitted
+          (went (goal.at.append-requires c).Start).has_capacity;
     }

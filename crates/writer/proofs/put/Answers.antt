@@ -11,7 +11,11 @@ returns-then-refusal-ne0 c =
     let a = c.args in
     let s = state_with a.w a.counts.now a.buf.now in
     let e = entry_of a.name.now a.id in
-    record { answer = c.put_refusal-refusal.ensures; leaves = refused_leaves s e c.put_refusal-refusal.result c.put_refusal-refusal.ensures c.if-refusal-ne0.true }
+    record {
+      answer = c.put_refusal-refusal.ensures;
+      leaves = refused_leaves s e c.put_refusal-refusal.result c.put_refusal-refusal.ensures
+          c.if-refusal-ne0.true;
+    }
 
 pub returns : goal.returns
 returns c =

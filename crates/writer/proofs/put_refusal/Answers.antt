@@ -22,11 +22,13 @@ none_due : (c : Else-earlier-ne0) → earlier_refusal (state_with c.args.w c.arg
 none_due c = sym c.earlier_refusal-earlier.ensures ∙ c.if-earlier-ne0.false
 
 pub returns-then-not-fits : goal.returns-then-not-fits
-returns-then-not-fits c = refuses_unfit (state_with c.args.w c.args.counts.now c.args.buf.now) (entry_of c.args.name.now c.args.id) (sym c.fits.ensures ∙ c.if-not-fits.true)
+returns-then-not-fits c = refuses_unfit (state_with c.args.w c.args.counts.now c.args.buf.now) (entry_of c.args.name.now c.args.id)
+    (sym c.fits.ensures ∙ c.if-not-fits.true)
 
 pub returns-then-has_zero : goal.returns-then-has_zero
 returns-then-has_zero c =
-    refuses_zero (state_with c.args.w c.args.counts.now c.args.buf.now) (entry_of c.args.name.now c.args.id) (fitted (goal.at.returns-then-has_zero c).Else-not-fits) (sym c.has_zero.ensures ∙ c.if-has_zero.true)
+    refuses_zero (state_with c.args.w c.args.counts.now c.args.buf.now) (entry_of c.args.name.now c.args.id)
+    (fitted (goal.at.returns-then-has_zero c).Else-not-fits) (sym c.has_zero.ensures ∙ c.if-has_zero.true)
 
 pub earlier_refusal-earlier-requires : goal.earlier_refusal-earlier-requires
 earlier_refusal-earlier-requires c =
@@ -35,18 +37,26 @@ earlier_refusal-earlier-requires c =
 
 pub returns-then-earlier-ne0 : goal.returns-then-earlier-ne0
 returns-then-earlier-ne0 c =
-    refuses_earlier (state_with c.args.w c.args.counts.now c.args.buf.now) (entry_of c.args.name.now c.args.id) (fitted (goal.at.returns-then-earlier-ne0 c).Else-not-fits) (zero_free (goal.at.returns-then-earlier-ne0 c).Else-has_zero) c.earlier_refusal-earlier.result
+    refuses_earlier (state_with c.args.w c.args.counts.now c.args.buf.now) (entry_of c.args.name.now c.args.id)
+    (fitted (goal.at.returns-then-earlier-ne0 c).Else-not-fits) (zero_free (goal.at.returns-then-earlier-ne0 c).Else-has_zero)
+    c.earlier_refusal-earlier.result
     c.earlier_refusal-earlier.ensures c.if-earlier-ne0.true
 
 pub returns-then-name-ge4294967295 : goal.returns-then-name-ge4294967295
 returns-then-name-ge4294967295 c =
     let a = c.args in
-    refuses_full (state_with c.args.w c.args.counts.now c.args.buf.now) (entry_of c.args.name.now c.args.id) (fitted (goal.at.returns-then-name-ge4294967295 c).Else-not-fits) (zero_free (goal.at.returns-then-name-ge4294967295 c).Else-has_zero) (none_due (goal.at.returns-then-name-ge4294967295 c).Else-earlier-ne0) (long_name a.w a.name.now a.id c.if-name-ge4294967295.true)
+    refuses_full (state_with c.args.w c.args.counts.now c.args.buf.now) (entry_of c.args.name.now c.args.id)
+    (fitted (goal.at.returns-then-name-ge4294967295 c).Else-not-fits) (zero_free (goal.at.returns-then-name-ge4294967295 c).Else-has_zero)
+    (none_due (goal.at.returns-then-name-ge4294967295 c).Else-earlier-ne0) (long_name a.w a.name.now a.id c.if-name-ge4294967295.true)
 
 pub size_with-requires : goal.size_with-requires
 size_with-requires c =
     let a = c.args in
-    record { low = omega (arith, c.well_formed, fitting a.w a.counts.now a.buf.now (fitted (goal.at.size_with-requires c).Else-not-fits)); short = c.if-name-ge4294967295.false }
+    record {
+      low = omega (arith, c.well_formed, fitting a.w a.counts.now a.buf.now (fitted (goal.at.size_with-requires c).Else-not-fits));
+      short =
+          c.if-name-ge4294967295.false;
+    }
 
 -- the size after this put, as the last check reads it
 sized : (c : After-too_large) → let a = c.args in
@@ -57,9 +67,14 @@ sized c =
 pub returns-then-too_large : goal.returns-then-too_large
 unfolding writer_after_entry
 returns-then-too_large c =
-    refuses_full (state_with c.args.w c.args.counts.now c.args.buf.now) (entry_of c.args.name.now c.args.id) (fitted (goal.at.returns-then-too_large c).Else-not-fits) (zero_free (goal.at.returns-then-too_large c).Else-has_zero) (none_due (goal.at.returns-then-too_large c).Else-earlier-ne0) (sized (goal.at.returns-then-too_large c).After-too_large ∙ c.if-too_large.true)
+    refuses_full (state_with c.args.w c.args.counts.now c.args.buf.now) (entry_of c.args.name.now c.args.id)
+    (fitted (goal.at.returns-then-too_large c).Else-not-fits) (zero_free (goal.at.returns-then-too_large c).Else-has_zero)
+    (none_due (goal.at.returns-then-too_large c).Else-earlier-ne0)
+    (sized (goal.at.returns-then-too_large c).After-too_large ∙ c.if-too_large.true)
 
 pub returns : goal.returns
 unfolding writer_after_entry
 returns c =
-    accepts (state_with c.args.w c.args.counts.now c.args.buf.now) (entry_of c.args.name.now c.args.id) (fitted (goal.at.returns c).Else-not-fits) (zero_free (goal.at.returns c).Else-has_zero) (none_due (goal.at.returns c).Else-earlier-ne0) (sized (goal.at.returns c).After-too_large ∙ c.if-too_large.false)
+    accepts (state_with c.args.w c.args.counts.now c.args.buf.now) (entry_of c.args.name.now c.args.id) (fitted (goal.at.returns c).Else-not-fits)
+    (zero_free (goal.at.returns c).Else-has_zero) (none_due (goal.at.returns c).Else-earlier-ne0)
+    (sized (goal.at.returns c).After-too_large ∙ c.if-too_large.false)

@@ -24,7 +24,8 @@ loop-t-preserved c =
       rows =
           rows_step counts c.loop-t.buf _ c.loop-t.o c.loop-t.t 256 less is c.offset_or_zero.ensures c.low.ensures c.low-in-loop-t.ensures
           c.store_word.ensures c.store_word-in-loop-t.ensures c.loop-t.invariant.rows;
-      begins = table_offsets_step counts c.loop-t.places _ c.loop-t.o c.loop-t.t 256 c.low-in-loop-t-2.result c.as_u64-count.result less c.low-in-loop-t-2.ensures is c.loop-t.invariant.begins;
+      begins = table_offsets_step counts c.loop-t.places _ c.loop-t.o c.loop-t.t 256 c.low-in-loop-t-2.result c.as_u64-count.result less
+          c.low-in-loop-t-2.ensures is c.loop-t.invariant.begins;
       near = omega (arith, c.as_u64-count.ensures.small, c.loop-t.invariant.near);
     }
 

@@ -20,7 +20,11 @@ pub returns-then-word-eq0 : goal.returns-then-word-eq0
 returns-then-word-eq0 c = λ end at below.
     let empty = sym c.word.ensures ∙ c.if-word-eq0.true in
     record {
-      first = record { is = first_empty_lem (c.loop-left.invariant (λ x. true)) c.loop-left-test.true empty; inside = (c.loop-left.invariant (λ x. true)).inside };
+      first = record {
+        is = first_empty_lem (c.loop-left.invariant (λ x. true)) c.loop-left-test.true empty;
+        inside =
+            (c.loop-left.invariant (λ x. true)).inside;
+      };
       unmet = λ z. none_matches (c.loop-left.invariant _) c.loop-left-test.true empty;
     }
 

@@ -11,7 +11,8 @@ entry : (c : Else-n-eq0) → let n = c.whole_length-n.result in
     (c.loop-left.at + (8 + n) ≤ c.args.end) × EntryPre c.loop-left.at n c.loop-left.buf
 entry c =
     let n = c.whole_length-n in
-    entry_in c.requires c.loop-left.buf c.loop-left.invariant.long c.loop-left.at n.result c.loop-left.invariant.inside n.ensures.is n.ensures.small c.if-n-eq0.false
+    entry_in c.requires c.loop-left.buf c.loop-left.invariant.long c.loop-left.at n.result c.loop-left.invariant.inside n.ensures.is
+    n.ensures.small c.if-n-eq0.false
 
 -- ---- the needs
 pub returns-then-n-eq0 : goal.returns-then-n-eq0
@@ -24,7 +25,8 @@ next_word c = omega (
   arith,
   (let the-entry : let n = c.whole_length-n.result in
       (c.loop-left.at + (8 + n) ≤ c.args.end) × EntryPre c.loop-left.at n c.loop-left.buf = let n = c.whole_length-n in
-      entry_in c.requires c.loop-left.buf c.loop-left.invariant.long c.loop-left.at n.result c.loop-left.invariant.inside n.ensures.is n.ensures.small c.if-n-eq0.false in the-entry).0,
+      entry_in c.requires c.loop-left.buf c.loop-left.invariant.long c.loop-left.at n.result c.loop-left.invariant.inside n.ensures.is
+      n.ensures.small c.if-n-eq0.false in the-entry).0,
   c.requires.end_word,
 )
 

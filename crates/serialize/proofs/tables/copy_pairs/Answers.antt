@@ -22,7 +22,8 @@ loop-i-preserved c =
     record {
       long = length-set x (2 * c.loop-i.i + 1) c.word-in-loop-i.result ∙ length-set c.loop-i.copy (2 * c.loop-i.i) c.word.result ∙ c.loop-i.invariant.long;
       most = omega (arith, less);
-      copied = copy_step c.loop-i.invariant.copied (room (goal.at.loop-i-preserved c).At-loop-i (omega (arith, less))) c.word.ensures c.word-in-loop-i.ensures;
+      copied = copy_step c.loop-i.invariant.copied (room (goal.at.loop-i-preserved c).At-loop-i (omega (arith, less))) c.word.ensures
+          c.word-in-loop-i.ensures;
     }
 
 pub returns : goal.returns
@@ -64,7 +65,12 @@ pub overflow_add-copy : goal.overflow_add-copy
 overflow_add-copy c = omega (arith, inside (goal.at.overflow_add-copy c).At-loop-i (omega (arith, c.loop-i-test.true)))
 
 pub bounds-copy-i-in-loop-i : goal.bounds-copy-i-in-loop-i
-bounds-copy-i-in-loop-i c = omega (arith, room (goal.at.bounds-copy-i-in-loop-i c).At-loop-i (omega (arith, c.loop-i-test.true)), length-set c.loop-i.copy (2 * c.loop-i.i) c.word.result)
+bounds-copy-i-in-loop-i c = omega (
+  arith,
+  room (goal.at.bounds-copy-i-in-loop-i c).At-loop-i (omega (arith, c.loop-i-test.true)),
+  length-set
+      c.loop-i.copy (2 * c.loop-i.i) c.word.result,
+)
 
 pub loop-i-smaller : goal.loop-i-smaller
 loop-i-smaller c = omega (arith, c.loop-i-test.true)

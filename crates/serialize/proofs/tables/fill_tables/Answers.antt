@@ -45,7 +45,8 @@ loop-t-preserved c =
       most = omega (arith, less);
       long = done.auto.buf ∙ c.loop-t.invariant.long;
       copy_long = done.auto.copy ∙ c.loop-t.invariant.copy_long;
-      leaves = tables_step a.counts.now c.loop-t.buf _ c.loop-t.o c.loop-t.t 256 c.as_u64-c.result less c.as_u64-c.ensures.is leaves c.loop-t.invariant.leaves;
+      leaves = tables_step a.counts.now c.loop-t.buf _ c.loop-t.o c.loop-t.t 256 c.as_u64-c.result less c.as_u64-c.ensures.is leaves
+          c.loop-t.invariant.leaves;
       near = omega (arith, c.as_u64-c.ensures.small, c.loop-t.invariant.near);
       behind = omega (arith, c.loop-t.invariant.behind);
       front = ap (take a.end) leaves ∙ front_kept c.loop-t.buf a.end c.loop-t.o c.as_u64-c.result c.loop-t.invariant.behind ∙ c.loop-t.invariant.front;
@@ -65,7 +66,8 @@ returns c =
     let a = c.args in
     record {
       leaves = λ _. tables_end a.counts.now c.loop-t.buf _ c.loop-t.o c.loop-t.t (rw z at c.loop-t.invariant.leaves);
-      apart = λ e. c.loop-t.invariant.apart e (subst (λ (k : ℕ). TablesApart (take a.end a.buf.now) a.counts.now c.loop-t.o c.loop-t.t k c.loop-t.buf) (sym z) tt);
+      apart = λ e. c.loop-t.invariant.apart e (subst (λ (k : ℕ). TablesApart (take a.end a.buf.now) a.counts.now c.loop-t.o c.loop-t.t k
+          c.loop-t.buf) (sym z) tt);
     }
 
 pub overflow_mul-o : goal.overflow_mul-o

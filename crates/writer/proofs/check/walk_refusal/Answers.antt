@@ -21,15 +21,18 @@ pub returns-then-not-same_counts : goal.returns-then-not-same_counts
 returns-then-not-same_counts c =
     let a = c.args in
     let found = c.walk-walked.ensures in
-    other_counts a.w a.counts.now a.buf.now a.name.now _ found.whole_is (whole (goal.at.returns-then-not-same_counts c).Else-not-walked) _ (found.counts_are (whole (goal.at.returns-then-not-same_counts c).Else-not-walked))
+    other_counts a.w a.counts.now a.buf.now a.name.now _ found.whole_is (whole (goal.at.returns-then-not-same_counts c).Else-not-walked) _
+    (found.counts_are (whole (goal.at.returns-then-not-same_counts c).Else-not-walked))
     _ c.same_counts.ensures c.if-not-same_counts.true
 
 pub returns-then-w-back_in : goal.returns-then-w-back_in
 returns-then-w-back_in c =
     let a = c.args in
     let found = c.walk-walked.ensures in
-    other_back a.w a.counts.now a.buf.now a.name.now _ found.whole_is (whole (goal.at.returns-then-w-back_in c).Else-not-walked) _ (found.counts_are (whole (goal.at.returns-then-w-back_in c).Else-not-walked))
-    _ c.same_counts.ensures c.if-not-same_counts.false _ _ (found.back_is (whole (goal.at.returns-then-w-back_in c).Else-not-walked)) c.back_in.ensures c.if-w-back_in.true
+    other_back a.w a.counts.now a.buf.now a.name.now _ found.whole_is (whole (goal.at.returns-then-w-back_in c).Else-not-walked) _
+    (found.counts_are (whole (goal.at.returns-then-w-back_in c).Else-not-walked))
+    _ c.same_counts.ensures c.if-not-same_counts.false _ _ (found.back_is (whole (goal.at.returns-then-w-back_in c).Else-not-walked))
+    c.back_in.ensures c.if-w-back_in.true
 
 -- the entries agree with the record: the answer is whether one has the name
 by_match : (c : Else-w-back_in) (m : Bool)
@@ -38,7 +41,8 @@ by_match : (c : Else-w-back_in) (m : Bool)
 by_match c m is =
     let a = c.args in
     let found = c.walk-walked.ensures in
-    by_name a.w a.counts.now a.buf.now a.name.now _ found.whole_is (not-false _ c.if-not-walked.false) _ (found.counts_are (not-false _ c.if-not-walked.false))
+    by_name a.w a.counts.now a.buf.now a.name.now _ found.whole_is (not-false _ c.if-not-walked.false) _
+    (found.counts_are (not-false _ c.if-not-walked.false))
     _ c.same_counts.ensures c.if-not-same_counts.false _ _ (found.back_is (not-false _ c.if-not-walked.false)) c.back_in.ensures c.if-w-back_in.false
     m (is ∙ found.contains_is (not-false _ c.if-not-walked.false))
 
