@@ -41,7 +41,8 @@ module _ (a b : List ℕ) (e : ℕ) (same : take e a ≡ take e b) (in_b : e ≤
           place_here b at (begins_same at h l') ∙ ap (λ (w : ℕ). value (record { start = at; size = w })) (sym s) ∙ ap value is
   place_same (suc k) at p q l = same_behind (met a at) (λ d. place_same k (at + size_at a at) p d l)
     where
-      same_behind : Met a at → (place_from a (at + size_at a at) k ≡ value p → place_from b (at + size_at a at) k ≡ value p) → place_from b at (suc k) ≡ value p
+      same_behind : Met a at → (place_from a (at + size_at a at) k ≡ value p → place_from b (at + size_at a at) k ≡ value p)
+          → place_from b at (suc k) ≡ value p
       same_behind (ended z) more = absurd (no_value 11 p (sym (place_ended a at (suc k) z) ∙ q))
       same_behind (broke n z) more = absurd (no_value 10 p (sym (place_broke a at (suc k) n z) ∙ q))
       same_behind (began h) more =
@@ -54,7 +55,8 @@ module _ (a b : List ℕ) (e : ℕ) (same : take e a ≡ take e b) (in_b : e ≤
   -- and its part
   pub part_same : (p : Place) → image_end p ≤ e → image_part a p ≡ image_part b p
   part_same p l =
-      let up_to : take (image_end p) a ≡ take (image_end p) b = sym (take-take (image_end p) e a l) ∙ ap (take (image_end p)) same ∙ take-take (image_end p) e b l in
+      let up_to : take (image_end p) a ≡ take (image_end p) b = sym (take-take (image_end p) e a l) ∙ ap (take (image_end p)) same
+      ∙ take-take (image_end p) e b l in
       let d : image_end p - p.start ≡ p.size = omega arith in
       ap (λ (n : ℕ). take n (drop p.start a)) (sym d)
       ∙ between_same a b (image_end p) up_to p.start

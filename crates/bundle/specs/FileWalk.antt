@@ -17,7 +17,8 @@ size_at file at = word file (at + 4)
 
 -- "a walk that meets 1 to 7 last bytes, or a size word under 2,072 or past the file's end"
 abbrev pub breaks : List ℕ → ℕ → Bool
-breaks file at = ltb (length file) (at + 8) || ltb (size_at file at) head_size || ltb (length file) (at + size_at file at)
+breaks file at = ltb (length file) (at + 8) || ltb (size_at file at) head_size
+    || ltb (length file) (at + size_at file at)
 
 -- a step of the walk, at a place: what is given at "exactly the file's end, where no image begins"; 10 where the walk
 -- breaks off; what is given where an image begins
@@ -42,7 +43,8 @@ place_of_image file position = place_from file 0 position
 unfoldable pub count_images_from : ℕ → List ℕ → ℕ → ℕ → Outcome ℕ
 unfolding file_step
 count_images_from zero file at n = file_step file at (value n) (refusal refused.broken_bundle)
-count_images_from (suc m) file at n = file_step file at (value n) (count_images_from m file (at + size_at file at) (suc n))
+count_images_from (suc m) file at n = file_step file at (value n)
+    (count_images_from m file (at + size_at file at) (suc n))
 
 -- the number of images in a file. Each has at least 2,072 bytes, so m is large enough
 abbrev pub counting : List ℕ → Outcome ℕ

@@ -70,7 +70,8 @@ module _ (name : ℕ → Option (List ℕ)) where
       let digits = places 9 (id / 10) in
       let last : ℕ = 48 + id % 10 in
       let n = all_append Plain digits (last ∷ []) (plain_places 9 (id / 10)) (omega arith, tt) in
-      all_append Plain (id_field id ++ (32 ∷ [])) (name_field (name id)) (all_append Plain (id_field id) (32 ∷ []) n (omega arith, tt)) (plain_field (name id))
+      all_append Plain (id_field id ++ (32 ∷ [])) (name_field (name id)) (all_append Plain (id_field id) (32 ∷ []) n (omega arith, tt))
+      (plain_field (name id))
 
   abbrev pub Printable : ℕ → Type 0
   Printable b = Plain b ⊎ (b ≡ 10)

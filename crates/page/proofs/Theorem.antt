@@ -33,8 +33,13 @@ use Rattle.page.proofs.IdFields.{read_number}
 module _ (name : ℕ → Option (List ℕ)) (id : ℕ) where
   length_front : length (front name id) ≡ 44
   length_front =
-      omega
-      (arith, length-append (id_field id ++ (32 ∷ [])) (name_field (name id)), length-append (id_field id) (32 ∷ []), length_number id, length_field (name id))
+      omega (
+        arith,
+        length-append (id_field id ++ (32 ∷ [])) (name_field (name id)),
+        length-append (id_field id) (32 ∷ []),
+        length_number id,
+        length_field (name id),
+      )
 
   line_ends : get_or (line name id) 44 0 ≡ 10
   unfolding line

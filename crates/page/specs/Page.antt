@@ -1,7 +1,8 @@
 -- A printed catalogue: 02 (iii). "The page is a function of the naming rule and the back size": `name` gives an id's
 -- name, or none. Bytes: 10 is a line feed, 32 a space, 43 a plus sign, 45 a hyphen, 46 a full stop, and 48 to 57 are
 -- the digits.
-use Rattle.std.specs.Prelude.{ℕ, zero, suc, ◌+◌, ◌-◌, ◌/◌, ◌%◌, cond, ◌&&◌, List, [], ◌∷◌, ◌++◌, map, length, take, replicate, eqb, ltb, leb}
+use Rattle.std.specs.Prelude.{ℕ, zero, suc, ◌+◌, ◌-◌, ◌/◌, ◌%◌, cond, ◌&&◌, List, [], ◌∷◌, ◌++◌, map, length, take}
+use Rattle.std.specs.Prelude.{replicate, eqb, ltb, leb}
 use Rattle.std.proofs.Math.Option.{Option, none, some}
 use Rattle.image.specs.Bytes.{cat, range}
 

@@ -12,7 +12,7 @@ use lib.Seq.{take_all}
 use Rattle.jhash.specs.Outcome.{Outcome, value, refusal}
 use Rattle.jhash.proofs.ValueOrRefusal.{no_value}
 use Rattle.sheet.specs.Format.{Lists, sheet_bytes}
-use Rattle.sheet.specs.SheetReading.{part_end, and_then, sections, nothing_left, read_sheet, lists_of_lem, read_lists}
+use Rattle.sheet.specs.SheetReading.{part_end, and_then, sections, nothing_left, read_sheet, lists_of, read_lists}
 use Rattle.sheet.specs.Theorems.RoundSheet.{Below, Fits}
 use Rattle.sheet.specs.declared.Sheet.{Sheet}
 use Rattle.sheet.proofs.Sheets.{Lie, Three, three_or_short, sheet_reads, lists_read, sheet_ends, front_again}
@@ -33,13 +33,13 @@ module _ (file : List ℕ) where
     pub reading_whole : length file ≤ part_end s.retired → read_sheet file ≡ value s
     reading_whole h = checked ∙ simp (le-ltb (part_end s.retired) (length file) h)
 
-  pub lists_of : (s : Sheet) → read_sheet file ≡ value s → read_lists file ≡ value (lists_of_lem file s)
+  pub lists_of_lem : (s : Sheet) → read_sheet file ≡ value s → read_lists file ≡ value (lists_of file s)
   unfolding read_lists
-  lists_of s e = ap (λ (r : Outcome Sheet). and_then r (λ t. value (lists_of_lem file t))) e
+  lists_of_lem s e = ap (λ (r : Outcome Sheet). and_then r (λ t. value (lists_of file t))) e
 
   pub no_lists : (n : ℕ) → read_sheet file ≡ refusal n → read_lists file ≡ refusal n
   unfolding read_lists
-  no_lists n e = ap (λ (r : Outcome Sheet). and_then r (λ t. value (lists_of_lem file t))) e
+  no_lists n e = ap (λ (r : Outcome Sheet). and_then r (λ t. value (lists_of file t))) e
 
 -- every file is a sheet, or goes on behind one, or breaks off
 pub record Whole (file : List ℕ) : Type 0 where
@@ -96,7 +96,7 @@ sheet_back l fits =
     let file = sheet_bytes l ++ [] in
     let same : file ≡ sheet_bytes l = append-nil (sheet_bytes l) in
     let read = reading_whole file _ (sheet_reads l [] fits) (omega (arith, sheet_ends l [], length-append (sheet_bytes l) [])) in
-    ap read_lists (sym same) ∙ lists_of file _ read ∙ ap value (lists_read l [] fits)
+    ap read_lists (sym same) ∙ lists_of_lem file _ read ∙ ap value (lists_read l [] fits)
 
 pub longer_read : (l : Lists) (rest : List ℕ) → Fits l → ¬ (rest ≡ []) → read_sheet (sheet_bytes l ++ rest) ≡ refusal 20
 longer_read l [] fits n = absurd (n refl)
@@ -105,6 +105,6 @@ longer_read l (x ∷ rest) fits n =
     (omega (arith, sheet_ends l (x ∷ rest), length-append (sheet_bytes l) (x ∷ rest)))
 
 -- a whole file is what the writer makes of its lists
-pub whole_again : (file : List ℕ) → Below 256 file → (w : Whole file) → sheet_bytes (lists_of_lem file w.places) ≡ file
+pub whole_again : (file : List ℕ) → Below 256 file → (w : Whole file) → sheet_bytes (lists_of file w.places) ≡ file
 whole_again file below w =
     front_again file w.places w.lie below ∙ take_all (part_end w.places.retired) file (omega (arith, w.end))

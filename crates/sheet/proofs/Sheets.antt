@@ -8,7 +8,7 @@ use lib.ListN.{length, take, drop, length-append, take-append-drop}
 use lib.Seq.{take-add}
 use Rattle.jhash.specs.Outcome.{Outcome, value, refusal}
 use Rattle.sheet.specs.Format.{section_bytes, Lists, sheet_bytes}
-use Rattle.sheet.specs.SheetReading.{part_end, part_bytes, ids_in, section_at, and_then, sections, lists_of_lem}
+use Rattle.sheet.specs.SheetReading.{part_end, part_bytes, ids_in, section_at, and_then, sections, lists_of}
 use Rattle.sheet.specs.Theorems.RoundSheet.{Below, Fits}
 use Rattle.sheet.specs.declared.SectionPlace.{SectionPlace}
 use Rattle.sheet.specs.declared.Sheet.{Sheet}
@@ -153,7 +153,7 @@ module _ (l : Lists) (rest : List ℕ) where
     sheet_reads = all_three file pa first_reads pb second_reads pc third_reads
 
     -- the lists that it reads as
-    pub lists_read : lists_of_lem file (sheet pa pb pc) ≡ l
+    pub lists_read : lists_of file (sheet pa pb pc) ≡ l
     lists_read = λ i. record { references = ra i; walls = rb i; retired = rc i }
       where
         ra : ids_in (part_bytes file pa) ≡ l.references
@@ -182,7 +182,7 @@ module _ (l : Lists) (rest : List ℕ) where
 -- ---- the lists of a file in which three sections lie
 
 module _ (file : List ℕ) (s : Sheet) (l : Lie file s) (below : Below 256 file) where
-  pub lists_fit : Fits (lists_of_lem file s)
+  pub lists_fit : Fits (lists_of file s)
   lists_fit = record {
     references = holdable file 0 s.references l.references below;
     walls = holdable file (part_end s.references) s.walls l.walls below;
@@ -190,7 +190,7 @@ module _ (file : List ℕ) (s : Sheet) (l : Lie file s) (below : Below 256 file)
   }
 
   -- their bytes are the front of the file
-  pub front_again : sheet_bytes (lists_of_lem file s) ≡ take (part_end s.retired) file
+  pub front_again : sheet_bytes (lists_of file s) ≡ take (part_end s.retired) file
   unfolding sheet_bytes
   front_again =
       ap₂ ◌++◌ (ap₂ ◌++◌ (bytes_again file 0 s.references l.references below) (bytes_again file ea s.walls l.walls below))
@@ -217,5 +217,5 @@ module _ (file : List ℕ) (s : Sheet) (l : Lie file s) (below : Below 256 file)
       upto : (n o e : ℕ) → e ≡ o + n → take o file ++ take n (drop o file) ≡ take e file
       upto n o e h = sym (ap (λ (k : ℕ). take k file) h ∙ take-add o n file)
 
-  pub file_again : sheet_bytes (lists_of_lem file s) ++ drop (part_end s.retired) file ≡ file
+  pub file_again : sheet_bytes (lists_of file s) ++ drop (part_end s.retired) file ≡ file
   file_again = ap (λ (xs : List ℕ). xs ++ drop (part_end s.retired) file) front_again ∙ take-append-drop (part_end s.retired) file

@@ -7,13 +7,13 @@ use mathlib.Core.List.{List, [], ◌∷◌, ◌++◌, append-nil}
 use lib.ListN.{length, take, drop, length-drop}
 use Rattle.jhash.specs.Outcome.{Outcome, value, refusal}
 use Rattle.sheet.specs.Format.{Lists, sheet_bytes}
-use Rattle.sheet.specs.SheetReading.{part_end, read_sheet, lists_of_lem, read_lists}
+use Rattle.sheet.specs.SheetReading.{part_end, read_sheet, lists_of, read_lists}
 use Rattle.sheet.specs.SheetWriting.{writing, after_writing}
 use Rattle.sheet.specs.Theorems.RoundSheet.{Below, Fits, PartsPlaced, HoldsIds, GoesOn, BreaksOff, OneOfThree, RoundSheet}
 use Rattle.sheet.specs.declared.Sheet.{Sheet}
 use Rattle.sheet.proofs.Sections.{part_holds}
 use Rattle.sheet.proofs.Sheets.{sized, lists_fit, file_again}
-use Rattle.sheet.proofs.Files.{Cases, cases, one_value, not_refused, of_whole, lists_of, no_lists, sheet_back, longer_read, whole_again}
+use Rattle.sheet.proofs.Files.{Cases, cases, one_value, not_refused, of_whole, lists_of_lem, no_lists, sheet_back, longer_read, whole_again}
 use Rattle.sheet.proofs.SheetStored.{accepted, file_in}
 
 two_refusals : {A : Type 0} {r : Outcome A} → r ≡ refusal 19 → ¬ (r ≡ refusal 20)
@@ -26,7 +26,7 @@ is_sheet file l below e = by (cases file)
   where
     by : Cases file → Fits l × (sheet_bytes l ≡ file)
     by (inl w) =
-        let same : lists_of_lem file w.places ≡ l = one_value _ _ (lists_of file w.places w.read) e in
+        let same : lists_of file w.places ≡ l = one_value _ _ (lists_of_lem file w.places w.read) e in
         (subst Fits same (lists_fit file w.places w.lie below), ap sheet_bytes (sym same) ∙ whole_again file below w)
     by (inr (inl g)) = absurd (not_refused l 20 e (no_lists file 20 g.read))
     by (inr (inr short)) = absurd (not_refused l 19 e (no_lists file 19 short))
@@ -58,7 +58,7 @@ left_over file below = (λ e. by e (cases file), λ (l, rest, fits, more, f). ap
         let s = g.places in
         let rest = drop (part_end s.retired) file in
         let more : ¬ (rest ≡ []) = λ n. omega (arith, length-drop (part_end s.retired) file, ap length n, g.end) in
-        (lists_of_lem file s, rest, lists_fit file s g.lie below, more, file_again file s g.lie below)
+        (lists_of file s, rest, lists_fit file s g.lie below, more, file_again file s g.lie below)
     by e (inr (inr short)) = absurd (two_refusals short e)
 
 one_of_three : (file : List ℕ) → OneOfThree file

@@ -72,8 +72,8 @@ abbrev pub cut_part : slices.Slice → SectionPlace → slices.Slice
 cut_part file p = cond (ltb (length file.bytes) p.start) (slices.subslice file 0 0) (part_at file p)
 
 -- the three lists that a file reads as
-abbrev pub lists_of_lem : List ℕ → Sheet → Lists
-lists_of_lem file s =
+abbrev pub lists_of : List ℕ → Sheet → Lists
+lists_of file s =
     record {
       references = ids_in (part_bytes file s.references);
       walls = ids_in (part_bytes file s.walls);
@@ -81,4 +81,4 @@ lists_of_lem file s =
     }
 
 unfoldable pub read_lists : List ℕ → Outcome Lists
-read_lists file = and_then (read_sheet file) (λ s. value (lists_of_lem file s))
+read_lists file = and_then (read_sheet file) (λ s. value (lists_of file s))

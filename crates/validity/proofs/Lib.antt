@@ -3,6 +3,5 @@ pub mod Months
 pub mod Dates
 pub mod WindowTests
 pub mod WindowLaws
-pub mod OverWindows
 pub mod Theorem
 pub mod ExampleRows

@@ -27,7 +27,8 @@ answer_by Inverted n = refusal refused.not_before_end
 answer_by InvalidDate n = refusal refused.no_such_date
 
 abbrev pub place_by_state : List ℕ → ℕ → Date → WindowState → Outcome Naming
-place_by_state image id date s = cond (not (is_date date)) (refusal refused.no_such_date) (answer_by s (naming image id))
+place_by_state image id date s = cond (not (is_date date)) (refusal refused.no_such_date)
+    (answer_by s (naming image id))
 
 abbrev pub part_by_state : Slice → ℕ → Date → WindowState → Slice
 part_by_state image id date s = slice_or image (subslice image 0 0) (named_in (place_by_state image.bytes id date s))

@@ -1,6 +1,6 @@
 -- Worked examples of 02 (i): files and positions, appends, and what is answered. The images are bytes of which only
 -- the size word is not 0, since a walk looks at nothing else.
-use Rattle.std.specs.Prelude.{ℕ, ◌+◌, ◌-◌, List, [], ◌∷◌, ◌++◌, replicate}
+use Rattle.std.specs.Prelude.{ℕ, ◌-◌, List, [], ◌∷◌, ◌++◌, replicate}
 use Rattle.jhash.specs.Outcome.{Outcome, value, refusal}
 use Rattle.image.specs.Bytes.{le32}
 use Rattle.bundle.specs.FileWalk.{Place}

@@ -1,6 +1,7 @@
 -- What is proved of bundles (`bundles` in proofs/Theorem): the sentences of 02 (i), and what a caller asks next. For
 -- all files, buffers, numbers and images.
-use Rattle.std.specs.Prelude.{ℕ, suc, ◌+◌, ◌^◌, ◌≤◌, ◌<◌, ◌≡◌, ◌↔◌, true, cond, List, ◌++◌, length, get_or, take, drop, ltb}
+use Rattle.std.specs.Prelude.{ℕ, suc, ◌+◌, ◌^◌, ◌≤◌, ◌<◌, ◌≡◌, ◌↔◌, true, cond, List, ◌++◌, length, get_or, take}
+use Rattle.std.specs.Prelude.{drop, ltb}
 use Rattle.jhash.specs.Outcome.{value, refusal}
 use Rattle.reader.specs.Open.{opening}
 use Rattle.bundle.specs.FileWalk.{Place, size_at, place_from, place_of_image, counting}

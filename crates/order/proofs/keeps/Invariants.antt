@@ -1,16 +1,10 @@
 -- `order::keeps` meets its contract. The loop's invariant: what is left of the round decides as the whole round does.
-use mathlib.Core.Path.{◌≡◌, refl, sym, ap, ◌∙◌}
+use mathlib.Core.Path.{◌≡◌}
 use Prim.Native.Nat.{ℕ, ◌≤◌, ◌-◌}
-use native.Mathlib.Omega.{arith}
-use native.Mathlib.Numerals.{add-one}
 use mathlib.Core.List.{List}
 use lib.ListN.{length, drop}
-use borrow.Author.Rules.{rules}
 use Rattle.order.specs.Rule.{kept}
 use Rattle.order.specs.declared.Pair.{Pair}
-use Rattle.order.proofs.PairLaws.{kept_end, kept_wall, kept_reference, kept_on}
-use Rattle.order.proofs.keeps.Reads as reads
-use Rattle.order.proofs.keeps.Lts as lts
 use Rattle.order.proofs.keeps.Given as goal
 
 pub record Inv (round : List ℕ) (p : Pair) (i : ℕ) : Type 0 where

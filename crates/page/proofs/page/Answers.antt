@@ -1,5 +1,4 @@
 -- `page::page` meets its contract. Assumes nothing.
-use borrow.Author.Rules.{rules}
 use Rattle.page.specs.Call.{printed_of}
 use Rattle.page.proofs.Pages.{whole_page}
 use Rattle.page.proofs.page.Goals as goal
@@ -7,5 +6,6 @@ use Rattle.page.proofs.page.Goals as goal
 pub returns : goal.returns
 returns c =
     let a = c.args in
-    whole_page a.image.now a.out.now c.print_front.new.out c.size_hint-size.result
-    (printed_of c.print_front.result) c.size_hint-size.ensures c.print_front.ensures
+    let h = whole_page a.image.now a.out.now c.print_front.new.out c.size_hint-size.result (printed_of c.print_front.result)
+    c.size_hint-size.ensures c.print_front.ensures in
+    record { answer = h.0; leaves = h.1 }

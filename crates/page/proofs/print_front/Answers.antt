@@ -1,5 +1,4 @@
 -- `page::print_front` meets its contract. Assumes nothing.
-use borrow.Author.Rules.{rules}
 use Rattle.reader.specs.Naming.{name_given}
 use Rattle.page.proofs.Pages.{too_short, all_printed}
 use Rattle.page.proofs.print_front.Goals as goal

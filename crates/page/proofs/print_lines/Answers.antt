@@ -1,15 +1,8 @@
 -- `page::print_lines` meets its contract. Assumes nothing.
 use native.Mathlib.Omega.{arith}
-use Prim.Native.Nat.{ℕ, ◌+◌, ◌*◌, ◌-◌, ◌≤◌}
-use mathlib.Core.Path.{◌≡◌, refl, sym, ◌∙◌}
-use mathlib.Core.List.{List}
-use lib.ListN.{length}
-use lib.Seq.{sets}
-use borrow.Author.Rules.{rules}
+use mathlib.Core.Path.{refl, sym, ◌∙◌}
 use Rattle.reader.specs.Naming.{name_given}
-use Rattle.page.specs.Page.{lines}
 use Rattle.page.proofs.Pages.{lines_start, lines_turn, lines_end}
-use Rattle.page.proofs.print_lines.Invariants.{Inv}
 use Rattle.page.proofs.print_lines.Goals as goal
 
 pub loop-i-init : goal.loop-i-init
@@ -42,7 +35,7 @@ loop-i-preserved c =
     let printed = c.print_line in
     record {
       inside = omega arith;
-      out_length = printed.auto.0 ∙ c.loop-i.invariant.out_length;
+      out_length = printed.auto.out ∙ c.loop-i.invariant.out_length;
       whole =
           lines_turn (name_given a.image.now) c.loop-i.out printed.new.out a.first c.loop-i.i a.count c.loop-i-test.true
           printed.ensures

@@ -1,14 +1,11 @@
 -- `page::print_lines` meets its contract. Assumes nothing.
-use native.Mathlib.Omega.{arith}
 use Prim.Native.Nat.{ℕ, ◌+◌, ◌*◌, ◌-◌, ◌≤◌}
-use mathlib.Core.Path.{◌≡◌, refl, sym, ◌∙◌}
+use mathlib.Core.Path.{◌≡◌}
 use mathlib.Core.List.{List}
 use lib.ListN.{length}
 use lib.Seq.{sets}
-use borrow.Author.Rules.{rules}
 use Rattle.reader.specs.Naming.{name_given}
 use Rattle.page.specs.Page.{lines}
-use Rattle.page.proofs.Pages.{lines_start, lines_turn, lines_end}
 use Rattle.page.proofs.print_lines.Given as goal
 
 pub record Inv (out₀ image : List ℕ) (first count : ℕ) (out : List ℕ) (i : ℕ) : Type 0 where

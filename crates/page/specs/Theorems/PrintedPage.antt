@@ -1,6 +1,7 @@
 -- What is proved of the page (`printed_page` in proofs/Theorem): the sentences of 02 (iii), and what a reader of the
 -- paper asks next. For all images, naming rules, ids and output buffers.
-use Rattle.std.specs.Prelude.{ℕ, ◌+◌, ◌*◌, ◌-◌, ◌^◌, ◌≤◌, ◌<◌, ◌≡◌, ◌⊎◌, cond, List, [], ◌∷◌, ◌++◌, length, get_or, take, drop, eqb}
+use Rattle.std.specs.Prelude.{ℕ, ◌+◌, ◌*◌, ◌-◌, ◌^◌, ◌≤◌, ◌<◌, ◌≡◌, ◌⊎◌, cond, List, [], ◌∷◌, ◌++◌, length, get_or}
+use Rattle.std.specs.Prelude.{take, drop, eqb}
 use Rattle.std.proofs.Math.Option.{Option}
 use Rattle.jhash.specs.Outcome.{refusal}
 use Rattle.reader.specs.Naming.{name_given}

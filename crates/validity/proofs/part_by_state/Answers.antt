@@ -1,13 +1,7 @@
 -- `validity::part_by_state` meets its contract, by the date and the cases of what the windows say.
 use mathlib.Core.Path.{sym, ◌∙◌}
-use borrow.Author.Tests.{not-true, not-false}
 use Rattle.reader.specs.Slices.{slice}
 use Rattle.validity.proofs.WindowTests.{no_date_part, by_state_part}
-use borrow.Author.Rules.{rules}
-use Rattle.validity.proofs.part_by_state.Reads as reads
-use Rattle.validity.proofs.part_by_state.Lts as lts
-use Rattle.reader.proofs.name.Reads as name_reads
-use Rattle.validity.proofs.calendar.is_date.Reads as is-date-reads
 use Rattle.validity.proofs.part_by_state.Goals as goal
 
 pub returns-then-not-is_date : goal.returns-then-not-is_date

@@ -1,14 +1,8 @@
 -- `validity::place_by_state` meets its contract, by the date and the cases of what the windows say.
 use mathlib.Core.Path.{sym, ap, ◌∙◌}
-use borrow.Author.Tests.{not-true, not-false}
 use Rattle.jhash.specs.Outcome.{value}
 use Rattle.reader.specs.Cases.{naming_of}
 use Rattle.validity.proofs.WindowTests.{no_date, by_state}
-use borrow.Author.Rules.{rules}
-use Rattle.validity.proofs.place_by_state.Reads as reads
-use Rattle.validity.proofs.place_by_state.Lts as lts
-use Rattle.reader.proofs.to_str.Reads as to-str-reads
-use Rattle.validity.proofs.calendar.is_date.Reads as is-date-reads
 use Rattle.validity.proofs.place_by_state.Goals as goal
 
 pub returns-then-not-is_date : goal.returns-then-not-is_date

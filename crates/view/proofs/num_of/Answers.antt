@@ -1,7 +1,6 @@
 -- `num_of` meets its contract: in each case the number is that of what `reader::open` answered.
 use Prim.Native.Nat.{ℕ}
 use mathlib.Core.Path.{◌≡◌, sym, ap, ◌∙◌}
-use borrow.Author.Rules.{rules}
 use Rattle.jhash.specs.Outcome.{Outcome}
 use Rattle.reader.specs.declared.Opened.{Opened}
 use Rattle.reader.specs.Cases.{opened_of}

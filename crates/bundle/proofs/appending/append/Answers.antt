@@ -2,7 +2,6 @@
 use native.Mathlib.Omega.{arith}
 use mathlib.Core.Path.{sym, ◌∙◌}
 use Rattle.bundle.proofs.Appends.{passed, refused, accepted}
-use borrow.Author.Rules.{rules}
 use Rattle.bundle.proofs.appending.append.Goals as goal
 
 pub returns-then-refusal-ne0 : goal.returns-then-refusal-ne0
@@ -10,7 +9,8 @@ returns-then-refusal-ne0 c =
     let a = c.args in
     let buf = a.buf.now in
     let image = a.image.now in
-    refused buf a.file_len image c.append_refusal-refusal.result c.append_refusal-refusal.ensures c.if-refusal-ne0.true
+    let h = refused buf a.file_len image c.append_refusal-refusal.result c.append_refusal-refusal.ensures c.if-refusal-ne0.true in
+    record { answer = h.0; leaves = h.1 }
 
 pub overflow_add-joined : goal.overflow_add-joined
 overflow_add-joined c =
@@ -35,4 +35,4 @@ returns c =
     let image = a.image.now in
     let none = sym c.append_refusal-refusal.ensures ∙ c.if-refusal-ne0.false in
     let done = accepted buf a.file_len image none in
-    (done.0, c.store_Bytes.ensures ∙ done.1)
+    record { answer = done.0; leaves = c.store_bytes.ensures ∙ done.1 }

@@ -1,9 +1,7 @@
 -- `bundle::appending::append_refusal` meets its contract. Assumes nothing.
 use mathlib.Core.Path.{sym, ◌∙◌}
 use lib.Seq.{length-take-le}
-use borrow.Author.Tests.{not-true, not-false}
 use Rattle.bundle.proofs.Appends.{refuses_long, refuses_broken, refuses_unfit, refuses_full, accepts}
-use borrow.Author.Rules.{rules}
 use Rattle.bundle.proofs.appending.append_refusal.Goals as goal
 
 pub returns-then-buf-file_len : goal.returns-then-buf-file_len

@@ -5,8 +5,6 @@ use mathlib.Core.Bool.{not}
 use borrow.Author.Tests.{lt-ltb, le-ltb}
 use lib.Dec.{eqb}
 use lib.ListN.{length}
-use Rattle.image.specs.Bytes.{word}
-use borrow.Author.Rules.{rules}
 use Rattle.bundle.proofs.appending.unfit.Goals as goal
 
 pub returns-then-image-lt-HEAD_SIZE : goal.returns-then-image-lt-HEAD_SIZE

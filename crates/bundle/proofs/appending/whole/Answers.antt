@@ -2,7 +2,6 @@
 use mathlib.Core.Path.{sym, ap, ◌∙◌}
 use Rattle.bundle.specs.Append.{is_value}
 use Rattle.bundle.specs.Cases.{counted_of}
-use borrow.Author.Rules.{rules}
 use Rattle.bundle.proofs.appending.whole.Goals as goal
 
 pub returns-in-Images : goal.returns-in-Images

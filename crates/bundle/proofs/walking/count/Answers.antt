@@ -1,12 +1,10 @@
 -- `bundle::walking::count` meets its contract. Assumes nothing.
-use Prim.Native.Nat.{ℕ, ◌-◌}
 use native.Mathlib.Omega.{arith}
 use mathlib.Core.Path.{◌≡◌, sym, ◌∙◌}
-use mathlib.Core.List.{List}
 use lib.ListN.{length}
 use Rattle.bundle.specs.FileWalk.{counting}
 use Rattle.bundle.proofs.FileSteps.{none_there, some_there}
-use Rattle.bundle.proofs.FileWalks.{Counting, counting_starts, counting_turn, count_broke, count_ended}
+use Rattle.bundle.proofs.FileWalks.{counting_starts, counting_turn, count_broke, count_ended}
 use Rattle.bundle.proofs.walking.count.Goals as goal
 
 pub loop-at-init : goal.loop-at-init

@@ -1,7 +1,6 @@
 -- `bundle::walking::image_size_at` meets its contract. Assumes nothing.
 use native.Mathlib.Omega.{arith}
 use Rattle.bundle.proofs.FileSteps.{size_short, size_small, size_past, size_fine}
-use borrow.Author.Rules.{rules}
 use Rattle.bundle.proofs.walking.image_size_at.Goals as goal
 
 pub returns-then-file-at-lt8 : goal.returns-then-file-at-lt8

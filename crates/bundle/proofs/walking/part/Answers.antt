@@ -4,7 +4,6 @@ use mathlib.Core.Path.{sym, ap, ◌∙◌}
 use Rattle.reader.specs.Slices.{slice}
 use Rattle.bundle.specs.Cases.{placed_of}
 use Rattle.bundle.proofs.ImagePlaces.{place_inside, part_there, no_part}
-use borrow.Author.Rules.{rules}
 use Rattle.bundle.proofs.walking.part.Goals as goal
 
 pub overflow_add-result : goal.overflow_add-result
@@ -28,5 +27,5 @@ returns-in-Image c =
 pub returns-in-Refused : goal.returns-in-Refused
 returns-in-Refused c =
     let a = c.args in
-    let of-place = c.place in
-    no_part (slice a.file) a.position c.in-Refused.field-0 (sym of-place.ensures ∙ ap placed_of c.in-Refused.is)
+    let of_place = c.place in
+    no_part (slice a.file) a.position c.in-Refused.field-0 (sym of_place.ensures ∙ ap placed_of c.in-Refused.is)

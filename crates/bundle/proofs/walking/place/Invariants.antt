@@ -1,13 +1,9 @@
 -- `bundle::walking::place` meets its contract. Assumes nothing.
 use Prim.Native.Nat.{ℕ, ◌-◌, ◌≤◌}
-use native.Mathlib.Omega.{arith}
-use mathlib.Core.Path.{◌≡◌, refl, sym, ap, ◌∙◌}
+use mathlib.Core.Path.{◌≡◌}
 use mathlib.Core.List.{List}
 use lib.ListN.{length}
-use Rattle.jhash.specs.Outcome.{value}
 use Rattle.bundle.specs.FileWalk.{place_from, place_of_image}
-use Rattle.bundle.proofs.FileSteps.{ImageThere, none_there, some_there}
-use Rattle.bundle.proofs.FileWalks.{place_broke, place_ended, place_here, place_turn}
 use Rattle.bundle.proofs.walking.place.Given as goal
 
 pub record Inv (file : List ℕ) (position at left : ℕ) : Type 0 where

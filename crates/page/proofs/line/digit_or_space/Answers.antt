@@ -1,6 +1,5 @@
 -- `page::line::digit_or_space` meets its contract. Assumes nothing.
 use borrow.Author.Tests.{eq-eqb, ne_eqb}
-use borrow.Author.Rules.{rules}
 use Rattle.page.proofs.line.digit_or_space.Goals as goal
 
 pub returns-then-n-eq0 : goal.returns-then-n-eq0

@@ -2,7 +2,6 @@
 use native.Mathlib.Omega.{arith}
 use Prim.Native.Nat.{◌+◌}
 use lib.ListN.{length-set}
-use borrow.Author.Rules.{rules}
 use Rattle.page.proofs.Fields.{line_printed}
 use Rattle.page.proofs.line.print_line.Goals as goal
 

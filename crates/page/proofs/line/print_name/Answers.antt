@@ -2,7 +2,6 @@
 use native.Mathlib.Omega.{arith}
 use mathlib.Core.Path.{◌≡◌, sym}
 use lib.ListN.{length, take, length-set, length-take}
-use borrow.Author.Rules.{rules}
 use Rattle.page.proofs.Fields.{name_printed}
 use Rattle.page.proofs.line.print_name.Goals.{After-printed_length-n}
 use Rattle.page.proofs.line.print_name.Goals as goal
@@ -27,5 +26,5 @@ returns c =
     let spaces = c.repeat in
     let a = c.args in
     let printed = c.printed_length-n in
-    name_printed a.name.now a.out.now spaces.last.0 c.show_all.new.out a.at printed.result c.mark.result
+    name_printed a.name.now a.out.now spaces.new.out c.show_all.new.out a.at printed.result c.mark.result
     printed.ensures c.mark.ensures spaces.ensures c.show_all.ensures

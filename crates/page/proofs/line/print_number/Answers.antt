@@ -1,14 +1,9 @@
 -- `page::line::print_number` meets its contract. Assumes nothing.
 use native.Mathlib.Omega.{arith}
-use Prim.Native.Nat.{ℕ, ◌+◌, ◌-◌, ◌/◌, ◌≤◌}
-use mathlib.Core.Path.{◌≡◌, refl, sym, ◌∙◌}
-use mathlib.Core.List.{List}
-use lib.ListN.{length, length-set}
-use lib.Seq.{sets}
-use borrow.Author.Rules.{rules}
-use Rattle.page.specs.Page.{places}
+use Prim.Native.Nat.{◌+◌, ◌-◌}
+use mathlib.Core.Path.{refl, sym, ◌∙◌}
+use lib.ListN.{length-set}
 use Rattle.page.proofs.Fields.{number_start, place_turn, places_end}
-use Rattle.page.proofs.line.print_number.Invariants.{Inv}
 use Rattle.page.proofs.line.print_number.Goals as goal
 
 pub overflow_add-out : goal.overflow_add-out

@@ -1,13 +1,10 @@
 -- `page::line::print_number` meets its contract. Assumes nothing.
-use native.Mathlib.Omega.{arith}
-use Prim.Native.Nat.{ℕ, ◌+◌, ◌-◌, ◌/◌, ◌≤◌}
-use mathlib.Core.Path.{◌≡◌, refl, sym, ◌∙◌}
+use Prim.Native.Nat.{ℕ, ◌/◌, ◌≤◌}
+use mathlib.Core.Path.{◌≡◌}
 use mathlib.Core.List.{List}
-use lib.ListN.{length, length-set}
+use lib.ListN.{length}
 use lib.Seq.{sets}
-use borrow.Author.Rules.{rules}
 use Rattle.page.specs.Page.{places}
-use Rattle.page.proofs.Fields.{number_start, place_turn, places_end}
 use Rattle.page.proofs.line.print_number.Given as goal
 
 pub record Inv (out₀ : List ℕ) (at id : ℕ) (out : List ℕ) (n left : ℕ) : Type 0 where

@@ -1,14 +1,10 @@
 -- `page::line::repeat` meets its contract. Assumes nothing.
 use native.Mathlib.Omega.{arith}
 use native.Mathlib.Nat.{add-zero}
-use Prim.Native.Nat.{ℕ, ◌+◌, ◌-◌, ◌≤◌}
-use mathlib.Core.Path.{◌≡◌, refl, sym, ◌∙◌}
-use mathlib.Core.List.{List}
-use lib.ListN.{length, replicate, length-set}
-use lib.Seq.{sets}
-use borrow.Author.Rules.{rules}
+use Prim.Native.Nat.{◌+◌}
+use mathlib.Core.Path.{refl, sym, ◌∙◌}
+use lib.ListN.{length-set}
 use Rattle.page.proofs.PageStores.{repeat_turn, repeat_end}
-use Rattle.page.proofs.line.repeat.Invariants.{Inv}
 use Rattle.page.proofs.line.repeat.Goals as goal
 
 pub loop-j-init : goal.loop-j-init

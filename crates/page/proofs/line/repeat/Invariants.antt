@@ -1,13 +1,9 @@
 -- `page::line::repeat` meets its contract. Assumes nothing.
-use native.Mathlib.Omega.{arith}
-use native.Mathlib.Nat.{add-zero}
 use Prim.Native.Nat.{ℕ, ◌+◌, ◌-◌, ◌≤◌}
-use mathlib.Core.Path.{◌≡◌, refl, sym, ◌∙◌}
+use mathlib.Core.Path.{◌≡◌}
 use mathlib.Core.List.{List}
-use lib.ListN.{length, replicate, length-set}
+use lib.ListN.{length, replicate}
 use lib.Seq.{sets}
-use borrow.Author.Rules.{rules}
-use Rattle.page.proofs.PageStores.{repeat_turn, repeat_end}
 use Rattle.page.proofs.line.repeat.Given as goal
 
 pub record Inv (out₀ : List ℕ) (at b : ℕ) (out : List ℕ) (j : ℕ) : Type 0 where

@@ -1,15 +1,11 @@
 -- `page::line::show_all` meets its contract. Assumes nothing.
 use native.Mathlib.Omega.{arith}
 use native.Mathlib.Nat.{add-zero}
-use Prim.Native.Nat.{ℕ, ◌+◌, ◌-◌, ◌≤◌}
-use mathlib.Core.Path.{◌≡◌, refl, sym, ◌∙◌}
-use mathlib.Core.List.{List, map}
-use lib.ListN.{length, drop, length-set}
-use lib.Seq.{sets}
-use borrow.Author.Rules.{rules}
+use Prim.Native.Nat.{◌+◌}
+use mathlib.Core.Path.{refl, sym, ◌∙◌}
+use lib.ListN.{length-set}
 use Rattle.page.specs.Page.{shown}
 use Rattle.page.proofs.PageStores.{map_turn, map_end}
-use Rattle.page.proofs.line.show_all.Invariants.{Inv}
 use Rattle.page.proofs.line.show_all.Goals as goal
 
 pub loop-j-init : goal.loop-j-init

@@ -1,14 +1,10 @@
 -- `page::line::show_all` meets its contract. Assumes nothing.
-use native.Mathlib.Omega.{arith}
-use native.Mathlib.Nat.{add-zero}
 use Prim.Native.Nat.{ℕ, ◌+◌, ◌-◌, ◌≤◌}
-use mathlib.Core.Path.{◌≡◌, refl, sym, ◌∙◌}
+use mathlib.Core.Path.{◌≡◌}
 use mathlib.Core.List.{List, map}
-use lib.ListN.{length, drop, length-set}
+use lib.ListN.{length, drop}
 use lib.Seq.{sets}
-use borrow.Author.Rules.{rules}
 use Rattle.page.specs.Page.{shown}
-use Rattle.page.proofs.PageStores.{map_turn, map_end}
 use Rattle.page.proofs.line.show_all.Given as goal
 
 pub record Inv (out₀ : List ℕ) (at : ℕ) (bytes out : List ℕ) (j : ℕ) : Type 0 where

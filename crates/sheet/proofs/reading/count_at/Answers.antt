@@ -1,6 +1,5 @@
 -- `sheet::reading::count_at` meets its contract. Assumes nothing.
 use Rattle.sheet.proofs.CountsAndIds.{count_of}
-use borrow.Author.Rules.{rules}
 use Rattle.sheet.proofs.reading.count_at.Goals as goal
 
 pub returns : goal.returns

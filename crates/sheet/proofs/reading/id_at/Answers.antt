@@ -4,7 +4,6 @@ use native.Mathlib.Omega.{arith}
 use mathlib.Core.Path.{sym, ◌∙◌}
 use lib.ListN.{length}
 use Rattle.sheet.proofs.CountsAndIds.{ids_at, no_id}
-use borrow.Author.Rules.{rules}
 use Rattle.sheet.proofs.reading.id_at.Goals as goal
 
 pub returns-then-i-part : goal.returns-then-i-part

@@ -2,7 +2,6 @@
 use native.Mathlib.Omega.{arith}
 use Rattle.reader.specs.Slices.{slice}
 use Rattle.sheet.proofs.Parts.{part_past, part_cut, part_whole}
-use borrow.Author.Rules.{rules}
 use Rattle.sheet.proofs.reading.part.Goals as goal
 
 pub returns-then-all-start : goal.returns-then-all-start

@@ -4,7 +4,6 @@ use Rattle.reader.specs.Slices.{slice}
 use Rattle.sheet.specs.SheetReading.{cut_part}
 use Rattle.sheet.specs.Cases.{read_of}
 use Rattle.sheet.proofs.Parts.{section_there, no_section}
-use borrow.Author.Rules.{rules}
 use Rattle.sheet.proofs.reading.section.Goals as goal
 
 pub returns-in-Whole : goal.returns-in-Whole

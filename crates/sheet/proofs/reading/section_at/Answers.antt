@@ -4,7 +4,6 @@ use native.Mathlib.Omega.{arith}
 use mathlib.Core.Path.{sym, ap, ◌∙◌}
 use Rattle.jhash.specs.Outcome.{value}
 use Rattle.sheet.proofs.Sections.{no_count, no_ids, lies}
-use borrow.Author.Rules.{rules}
 use Rattle.sheet.proofs.reading.section_at.Goals as goal
 
 pub returns-then-left-lt2 : goal.returns-then-left-lt2

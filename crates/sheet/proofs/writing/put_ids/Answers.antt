@@ -1,15 +1,13 @@
 -- `sheet::writing::put_ids` meets its contract. Assumes nothing.
-use Prim.Native.Nat.{ℕ, ◌+◌, ◌*◌, ◌-◌, ◌≤◌}
+use Prim.Native.Nat.{ℕ, ◌+◌, ◌*◌}
 use native.Mathlib.Omega.{arith}
 use native.Mathlib.Nat.{add-zero, mul-zero}
-use mathlib.Core.Path.{◌≡◌, refl, sym, ap, ◌∙◌}
+use mathlib.Core.Path.{refl, sym, ap, ◌∙◌}
 use mathlib.Core.List.{List}
-use lib.ListN.{length, drop}
+use lib.ListN.{drop}
 use lib.Seq.{sets}
-use borrow.Author.Rules.{rules}
 use Rattle.sheet.specs.Format.{id_bytes}
 use Rattle.sheet.proofs.SheetStored.{put_turn, put_end}
-use Rattle.sheet.proofs.writing.put_ids.Invariants.{Inv}
 use Rattle.sheet.proofs.writing.put_ids.Goals as goal
 
 pub loop-i-init : goal.loop-i-init
@@ -38,7 +36,7 @@ loop-i-preserved c =
     let a = c.args in
     record {
       inside = omega arith;
-      buf_length = c.store_word_clipped.auto.0 ∙ c.loop-i.invariant.buf_length;
+      buf_length = c.store_word_clipped.auto.buf ∙ c.loop-i.invariant.buf_length;
       whole =
           ap (λ (b : List ℕ). sets b (a.at + 4 * (c.loop-i.i + 1)) (id_bytes (drop (c.loop-i.i + 1) a.ids.now))) c.store_word_clipped.ensures
           ∙ put_turn a.ids.now c.loop-i.buf a.at c.loop-i.i (omega arith)

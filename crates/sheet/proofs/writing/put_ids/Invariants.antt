@@ -1,14 +1,10 @@
 -- `sheet::writing::put_ids` meets its contract. Assumes nothing.
 use Prim.Native.Nat.{ℕ, ◌+◌, ◌*◌, ◌-◌, ◌≤◌}
-use native.Mathlib.Omega.{arith}
-use native.Mathlib.Nat.{add-zero, mul-zero}
-use mathlib.Core.Path.{◌≡◌, refl, sym, ap, ◌∙◌}
+use mathlib.Core.Path.{◌≡◌}
 use mathlib.Core.List.{List}
 use lib.ListN.{length, drop}
 use lib.Seq.{sets}
-use borrow.Author.Rules.{rules}
 use Rattle.sheet.specs.Format.{id_bytes}
-use Rattle.sheet.proofs.SheetStored.{put_turn, put_end}
 use Rattle.sheet.proofs.writing.put_ids.Given as goal
 
 pub record Inv (buf₀ : List ℕ) (at : ℕ) (ids buf : List ℕ) (i : ℕ) : Type 0 where

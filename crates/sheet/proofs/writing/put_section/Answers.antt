@@ -7,14 +7,13 @@ use lib.ListN.{length, length-set}
 use lib.Seq.{sets}
 use Rattle.sheet.specs.Format.{id_bytes}
 use Rattle.sheet.proofs.SheetStored.{put_count, put_whole}
-use borrow.Author.Rules.{rules}
 use Rattle.sheet.proofs.writing.put_section.Goals as goal
 
 pub bounds-buf-at-2 : goal.bounds-buf-at-2
 bounds-buf-at-2 c = simp length-set (omega arith)
 
 pub shape_of-buf : goal.shape_of-buf
-shape_of-buf c = c.put_ids.auto.0 ∙ simp length-set
+shape_of-buf c = c.put_ids.auto.buf ∙ simp length-set
 
 pub returns : goal.returns
 returns c =

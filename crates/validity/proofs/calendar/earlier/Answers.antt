@@ -1,8 +1,6 @@
 -- `validity::calendar::earlier` meets its contract, by the tests that led to each return.
 use mathlib.Core.Path.{sym}
 use Rattle.validity.proofs.Dates.{by_year, by_month, by_day}
-use Rattle.validity.proofs.calendar.earlier.Reads as reads
-use Rattle.validity.proofs.calendar.earlier.Lts as lts
 use Rattle.validity.proofs.calendar.earlier.Goals as goal
 
 pub returns-then-a-b : goal.returns-then-a-b

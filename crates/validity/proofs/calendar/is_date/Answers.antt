@@ -4,10 +4,6 @@ use lib.Dec.{leb}
 use borrow.Author.Tests.{le-leb, lt-leb}
 use Rattle.validity.specs.Calendar.{is_date}
 use Rattle.validity.proofs.Dates.{by_last_day}
-use borrow.Author.Rules.{rules}
-use Rattle.validity.proofs.calendar.is_date.Reads as reads
-use Rattle.validity.proofs.calendar.is_date.Lts as lts
-use Rattle.validity.proofs.calendar.month_length.Reads as month-length-reads
 use Rattle.validity.proofs.calendar.is_date.Goals as goal
 
 pub returns-then-d-lt1900 : goal.returns-then-d-lt1900

@@ -3,10 +3,6 @@ use mathlib.Core.Path.{sym, ◌∙◌}
 use borrow.Author.Tests.{eq-eqb, ne_eqb}
 use Rattle.validity.specs.Calendar.{is_end}
 use Rattle.validity.proofs.Dates.{by_new_year}
-use borrow.Author.Rules.{rules}
-use Rattle.validity.proofs.calendar.is_end.Reads as reads
-use Rattle.validity.proofs.calendar.is_end.Lts as lts
-use Rattle.validity.proofs.calendar.is_date.Reads as is-date-reads
 use Rattle.validity.proofs.calendar.is_end.Goals as goal
 
 pub returns-then-is_date : goal.returns-then-is_date

@@ -1,8 +1,6 @@
 -- `validity::calendar::leap` meets its contract, by the tests that led to each return.
 use borrow.Author.Tests.{eq-eqb, ne_eqb}
 use Rattle.validity.specs.Calendar.{leap}
-use Rattle.validity.proofs.calendar.leap.Reads as reads
-use Rattle.validity.proofs.calendar.leap.Lts as lts
 use Rattle.validity.proofs.calendar.leap.Goals as goal
 
 pub returns-then-year-ne0 : goal.returns-then-year-ne0

@@ -1,11 +1,9 @@
 -- `validity::calendar::month_length` meets its contract, by the arms of its match.
 use mathlib.Core.Path.{sym, ◌∙◌}
-use mathlib.Core.Logic.{inl, inr}
-use Rattle.validity.proofs.Months.{months_30, months_31, july_august, leap_february, february, no_month, seven_eight, above_12}
-use borrow.Author.Rules.{rules}
-use Rattle.validity.proofs.calendar.month_length.Reads as reads
-use Rattle.validity.proofs.calendar.month_length.Lts as lts
-use Rattle.validity.proofs.calendar.leap.Reads as leap-reads
+use Rattle.validity.proofs.Months.{months_30, months_31, leap_february, february}
+use native.Mathlib.Omega.{arith}
+use Rattle.std.proofs.lemmas.Grind.{common_steps}
+use Rattle.validity.specs.Calendar.{month_length, one_of}
 use Rattle.validity.proofs.calendar.month_length.Goals as goal
 
 pub returns-in-4 : goal.returns-in-4
@@ -18,17 +16,16 @@ pub returns-else-leap : goal.returns-else-leap
 returns-else-leap c = february _ _ c.in-2.is (sym c.leap.ensures ∙ c.if-leap.false)
 
 pub returns-in_default : goal.returns-in_default
-returns-in_default c = no_month _ _ (inl c.if-month-lt1.true)
+unfolding month_length one_of
+returns-in_default c = let h = c.in_default in grind (arith, common_steps)
 
 pub returns-in_default-2 : goal.returns-in_default-2
-returns-in_default-2 c =
-    let others = c.in_default-1.rest in
-    no_month _ _ (inr (above_12 _ others.0.0.1 others.0.1 others.1 c.if-month-lt9.false))
+unfolding month_length one_of
+returns-in_default-2 c = let h = c.in_default in grind (arith, common_steps)
 
 pub returns-in-1 : goal.returns-in-1
 returns-in-1 c = months_31 _ _ c.in-1.is
 
 pub returns-in-1-2 : goal.returns-in-1-2
-returns-in-1-2 c =
-    let others = c.in_default-1.rest in
-    july_august _ _ (seven_eight _ others.0.0.1 others.0.1 others.1 c.if-month-lt1.false c.if-month-lt9.true)
+unfolding month_length one_of
+returns-in-1-2 c = let h = c.in-1 in grind (arith, common_steps)

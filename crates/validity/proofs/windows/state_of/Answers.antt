@@ -1,14 +1,8 @@
 -- `validity::windows::state_of` meets its contract, by the tests that led to each return.
 use mathlib.Core.Path.{refl, sym, ◌∙◌}
 use mathlib.Core.Bool.{true, false}
-use borrow.Author.Tests.{eq-eqb, ne_eqb, not-true, not-false}
+use borrow.Author.Tests.{eq-eqb, ne_eqb}
 use Rattle.validity.proofs.WindowTests.{state_of_by}
-use borrow.Author.Rules.{rules}
-use Rattle.validity.proofs.windows.state_of.Reads as reads
-use Rattle.validity.proofs.windows.state_of.Lts as lts
-use Rattle.validity.proofs.calendar.earlier.Reads as earlier-reads
-use Rattle.validity.proofs.calendar.is_date.Reads as is-date-reads
-use Rattle.validity.proofs.calendar.is_end.Reads as is-end-reads
 use Rattle.validity.proofs.windows.state_of.Goals as goal
 
 pub returns-then-not-is_date : goal.returns-then-not-is_date

@@ -1,10 +1,5 @@
 -- `validity::windows::step` meets its contract: the stronger of the two, by their ranks.
 use Rattle.validity.proofs.WindowTests.{stronger_new, stronger_old}
-use borrow.Author.Rules.{rules}
-use Rattle.validity.proofs.windows.step.Reads as reads
-use Rattle.validity.proofs.windows.step.Lts as lts
-use Rattle.validity.proofs.windows.rank.Reads as rank-reads
-use Rattle.validity.proofs.windows.state_of.Reads as state-of-reads
 use Rattle.validity.proofs.windows.step.Goals as goal
 
 pub returns-then-rank : goal.returns-then-rank

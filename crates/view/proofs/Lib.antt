@@ -1,2 +1,0 @@
--- Laws that the proofs of the view share.
-pub mod OverView
