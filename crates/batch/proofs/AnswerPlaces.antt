@@ -93,7 +93,8 @@ placed_words d f four [] (y ∷ l) e has = absurd (omega arith)
 placed_words d f four (x ∷ xs) l e has =
     sym (take-append-drop 4 l)
     ∙ ap (λ (r : List ℕ). r ++ drop 4 l)
-    (ext_get_or 0 (take 4 l) (f x) (size ∙ sym (four x)) (λ w h. get_or-take 4 l w 0 (omega (arith, size)) ∙ first w (has 0 (omega arith) w (omega (arith, size)))))
+    (ext_get_or 0 (take 4 l) (f x) (size ∙ sym (four x)) (λ w h. get_or-take 4 l w 0 (omega (arith, size))
+    ∙ first w (has 0 (omega arith) w (omega (arith, size)))))
     ∙ ap (λ (r : List ℕ). f x ++ r)
     (placed_words d f four xs (drop 4 l) (omega (arith, length-drop 4 l)) (λ i k w q. shift i w (has (suc i) (omega arith) w q)))
   where

@@ -148,7 +148,8 @@ once_each xs = record { no_two = (fresh_from xs []).no_two; same_names = λ x. k
 -- ---- the buckets
 
 module _ (image : List ℕ) where
-  fewer_one : (x : List ℕ) (ys : List (List ℕ)) (n : ℕ) (t : Bool) → buckets_read image ys ≤ n → buckets_read image (new_only t x ys) ≤ reads (lookup image x) + n
+  fewer_one : (x : List ℕ) (ys : List (List ℕ)) (n : ℕ) (t : Bool) → buckets_read image ys ≤ n → buckets_read image (new_only t x ys)
+      ≤ reads (lookup image x) + n
   unfolding buckets_read
   fewer_one x ys n true h = omega arith
   fewer_one x ys n false h = omega arith

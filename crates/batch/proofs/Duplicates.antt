@@ -49,7 +49,8 @@ none_filled : (n k : ℕ) → get_or (filled n []) k empty ≡ empty
 unfolding filled insert_all
 none_filled n k = get_or_empties n k
 
-pub slots_empty : (xs : List (List ℕ)) (hashes slots : List ℕ) → length slots ≡ 4096 → ((k : ℕ) → k < 4096 → get_or slots k 0 ≡ 0) → SlotsHold xs hashes slots 0
+pub slots_empty : (xs : List (List ℕ)) (hashes slots : List ℕ) → length slots ≡ 4096 → ((k : ℕ) → k < 4096 → get_or slots k 0 ≡ 0)
+    → SlotsHold xs hashes slots 0
 slots_empty xs hashes slots size clear =
     record {
       held = [];

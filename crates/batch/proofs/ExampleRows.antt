@@ -27,6 +27,7 @@ twice =
 
 -- every row holds
 pub rows_hold : RowsHold
-unfolding round_outcome after_round names names_from invalid_ends different different_from among same buckets_read round_words cat lookup name_words name_refusal
+unfolding round_outcome after_round names names_from invalid_ends different different_from among same buckets_read round_words cat lookup
+    name_words name_refusal
     after_names naming
 rows_hold = record { gives = refl; leaves = refl; names_give = refl; names_leave = refl; twice = twice }

@@ -38,7 +38,8 @@ back_from : (xs : List (List ℕ)) (pre : List ℕ) (s : ℕ) → length pre ≡
 unfolding names_from packed_bytes ends_from
 back_from [] pre s e = refl
 back_from (x ∷ xs) pre s e =
-    ap (λ (y : List ℕ). y ∷ names_from (pre ++ (x ++ packed_bytes xs)) (s + length x) (ends_from (s + length x) xs)) (first_name_lem pre x (packed_bytes xs) s e)
+    ap (λ (y : List ℕ). y ∷ names_from (pre ++ (x ++ packed_bytes xs)) (s + length x) (ends_from (s + length x) xs))
+    (first_name_lem pre x (packed_bytes xs) s e)
     ∙ ap (λ (l : List ℕ). x ∷ names_from l (s + length x) (ends_from (s + length x) xs)) (sym (append_assoc pre x (packed_bytes xs)))
     ∙ ap (λ (l : List (List ℕ)). x ∷ l) (back_from xs (pre ++ x) (s + length x) (length-append pre x ∙ ap (λ (k : ℕ). k + length x) e))
 
@@ -47,7 +48,8 @@ unfolding invalid_ends packed_bytes ends_from
 valid_from [] size s h = refl
 valid_from (x ∷ xs) size s h =
     let k = length-append x (packed_bytes xs) in
-    ap (λ (t : Bool). (t || ltb size (s + length x)) || invalid_ends size (s + length x) (ends_from (s + length x) xs)) (le-ltb (s + length x) s (omega arith))
+    ap (λ (t : Bool). (t || ltb size (s + length x)) || invalid_ends size (s + length x) (ends_from (s + length x) xs))
+    (le-ltb (s + length x) s (omega arith))
     ∙ ap (λ (t : Bool). t || invalid_ends size (s + length x) (ends_from (s + length x) xs)) (le-ltb size (s + length x) (omega arith))
     ∙ valid_from xs size (s + length x) (omega arith)
 

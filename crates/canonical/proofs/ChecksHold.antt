@@ -11,7 +11,7 @@ use borrow.Author.Tests.{eq-eqb}
 use Rattle.jhash.specs.NameHash.{hash_of}
 use Rattle.image.specs.Bytes.{word, cat}
 use Rattle.image.specs.Head.{table_at, bucket_number, back_size_at}
-use Rattle.image.specs.Image.{Entry, Placed, head_size, entry_bytes, placed, in_table_lem, of_table, count, bucket_of, entries_before, table_offset, flag_word}
+use Rattle.image.specs.Image.{Entry, Placed, head_size, entry_bytes, placed, in_table, of_table, count, bucket_of, entries_before, table_offset, flag_word}
 use Rattle.image.specs.Image.{back_size, back_in, back_offset, entries_end, image_size, image}
 use Rattle.image.specs.Stored.{whole, entries_in, between}
 use Rattle.image.specs.Tables.{Bucket, table_of}
@@ -131,10 +131,10 @@ module _ (mode : Mode) (es : List Entry) (each : All Storable es) (fits : image_
   unfolding of_table
   buckets =
       all_map (λ p s. bucket_checked img (bucket_of p) (s (eq-eqb (table_of (hash_of p.entry.name)) _ refl))) ps
-      (all_own (λ (t : ℕ) (p : Placed). in_table_lem t p ≡ true → Stands (bucket_number img t) (bucket_at img (table_at img t)) (bucket_of p))
+      (all_own (λ (t : ℕ) (p : Placed). in_table t p ≡ true → Stands (bucket_number img t) (bucket_at img (table_at img t)) (bucket_of p))
       (λ (p : Placed). table_of (hash_of p.entry.name)) 256 ps (all_map (λ p s. mod-lt (hash_of p.entry.name) (omega arith)) ps names)
       (λ t h. all_map (λ p s i. moved t h (bucket_of p) (s i)) ps
-      (all_tested (Stands (2 * row_count img t) (bucket_at img (table_place img (end_in img n) t))) bucket_of (in_table_lem t) ps (matches t h).stand)))
+      (all_tested (Stands (2 * row_count img t) (bucket_at img (table_place img (end_in img n) t))) bucket_of (in_table t) ps (matches t h).stand)))
     where
       moved : (t : ℕ) (h : t < 256) (b : Bucket) → Stands (2 * row_count img t) (bucket_at img (table_place img (end_in img n) t)) b
           → Stands (bucket_number img t) (bucket_at img (table_at img t)) b

@@ -11,7 +11,7 @@ use borrow.Author.Tests.{eqb-true, eqb-false, eq-eqb, ne_eqb, le-ltb, ltb-false,
 use Rattle.jhash.specs.NameHash.{hash_of}
 use Rattle.image.specs.Bytes.{word, filter}
 use Rattle.image.specs.Head.{table_at, bucket_number}
-use Rattle.image.specs.Image.{Placed, head_size, in_table_lem, of_table, back_size, back_in}
+use Rattle.image.specs.Image.{Placed, head_size, in_table, of_table, back_size, back_in}
 use Rattle.image.specs.Stored.{whole, between}
 use Rattle.image.specs.Tally.{tallied}
 use Rattle.image.specs.Tables.{Bucket, table_of, start}
@@ -23,7 +23,8 @@ use Rattle.serialize.proofs.EntryAdded.{first_empty_below}
 use Rattle.canonical.specs.Steps.HiddenBuckets.{put_bucket, Stands}
 use Rattle.canonical.specs.Steps.InPlace.{bucket_at}
 use Rattle.canonical.specs.Canonical.{mode_in}
-use Rattle.canonical.specs.Steps.Checks.{in_its_bucket, entry_ok, entries_ok, not_before, entries_to, placed_from, rows_ok, counts_match, two_way, entries_valid}
+use Rattle.canonical.specs.Steps.Checks.{in_its_bucket, entry_ok, entries_ok, not_before, entries_to, placed_from, rows_ok, counts_match, two_way}
+use Rattle.canonical.specs.Steps.Checks.{entries_valid}
 use Rattle.canonical.specs.Steps.Checks.{back_words_counted, body_ok}
 use Rattle.canonical.proofs.TableChecks.{and3_facts}
 
@@ -87,10 +88,10 @@ module _ (img : List ℕ) (two : Bool) (o : ℕ) where
 pub to_table : (P : Placed → Type 0) (t : ℕ) (ps : List Placed) → All P ps → All (λ (p : Placed). P p × (table_of (hash_of p.entry.name) ≡ t)) (of_table t ps)
 unfolding of_table filter
 to_table P t [] a = tt
-to_table P t (p ∷ ps) a = with_first (in_table_lem t p) refl (to_table P t ps a.1)
+to_table P t (p ∷ ps) a = with_first (in_table t p) refl (to_table P t ps a.1)
   where
-    with_first : (b : Bool) → in_table_lem t p ≡ b → All (λ (p : Placed). P p × (table_of (hash_of p.entry.name) ≡ t)) (filter (in_table_lem t) ps)
-        → All (λ (p : Placed). P p × (table_of (hash_of p.entry.name) ≡ t)) (cond b (p ∷ filter (in_table_lem t) ps) (filter (in_table_lem t) ps))
+    with_first : (b : Bool) → in_table t p ≡ b → All (λ (p : Placed). P p × (table_of (hash_of p.entry.name) ≡ t)) (filter (in_table t) ps)
+        → All (λ (p : Placed). P p × (table_of (hash_of p.entry.name) ≡ t)) (cond b (p ∷ filter (in_table t) ps) (filter (in_table t) ps))
     with_first true e rest = ((a.0, eqb-true (table_of (hash_of p.entry.name)) t e), rest)
     with_first false e rest = rest
 

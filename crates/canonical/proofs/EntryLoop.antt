@@ -24,7 +24,8 @@ use Rattle.canonical.specs.Steps.Contracts.{OneIf, CheckEntriesPre, EntriesFound
 pub record Entering (img : List ℕ) (end entries : ℕ) (two : Bool) (o : ℕ) (counts₀ : List ℕ) (at left back lasts : ℕ) (counts : List ℕ) : Type 0 where
   pub rest : Rest img end entries counts₀ at left back counts
   pub valid_same : entries_ok img two o (placed_from img end left at) ≡ entries_ok img two o (placed_from img end entries 2072)
-  pub lasts_same : lasts + own_back_words (back_word_at img o) (placed_from img end left at) ≡ own_back_words (back_word_at img o) (placed_from img end entries 2072)
+  pub lasts_same : lasts + own_back_words (back_word_at img o) (placed_from img end left at)
+      ≡ own_back_words (back_word_at img o) (placed_from img end entries 2072)
   pub few : lasts + left ≤ entries
 
 not_valid : {img : List ℕ} {end entries : ℕ} {two : Bool} {o : ℕ} {counts₀ counts : List ℕ} → false ≡ entries_valid img end entries two o

@@ -9,7 +9,8 @@ use lib.Dec.{eqb, ltb, lit≤, lit<}
 use borrow.Author.Tests.{ltb-true}
 use Rattle.image.specs.Bytes.{word, le32, cat, filter, range, same}
 use Rattle.image.specs.Head.{back_size_at, back_offset_at}
-use Rattle.image.specs.Image.{head_size, image_size, contains_name, entry_bytes, entries_size, placed, of_table, bucket_bytes, table, table_bytes, entries_before}
+use Rattle.image.specs.Image.{head_size, image_size, contains_name, entry_bytes, entries_size, placed, of_table, bucket_bytes, table, table_bytes}
+use Rattle.image.specs.Image.{entries_before}
 use Rattle.image.specs.Image.{table_offset, table_row, back_size, placed_of_id, last_from, back_word, back_offset, head_bytes, head_words, table_rows, tables}
 use Rattle.image.specs.Image.{back_words, image}
 use Rattle.image.specs.Tables.{probe_sequence, first_empty, insert, insert_all, filled}
@@ -63,7 +64,8 @@ rows_hold = all_map holds_in canonical_rows computed
 
 -- the empty one-way image
 empty_image : image Oneway [] ≡ head_bytes 2072 1 0 0 ++ replicate 2048 0
-unfolding le32 cat filter range entry_bytes entries_size placed of_table bucket_bytes table table_bytes entries_before table_offset table_row back_size placed_of_id
+unfolding le32 cat filter range entry_bytes entries_size placed of_table bucket_bytes table table_bytes entries_before table_offset table_row
+    back_size placed_of_id
     last_from back_word back_offset head_bytes head_words table_rows tables back_words image probe_sequence first_empty insert insert_all filled
 empty_image = refl
 

@@ -6,7 +6,8 @@ use native.Mathlib.Omega.{arith}
 use lib.ListN.{length, get_or}
 use Rattle.jhash.proofs.Outcomes.{hash_of_below}
 use Rattle.image.specs.Bytes.{le32}
-use Rattle.image.specs.Image.{Entry, Placed, head_size, placed, in_table_lem, of_table, count, bucket_of, bucket_bytes, table, entries_before, has_id, placed_of_id}
+use Rattle.image.specs.Image.{Entry, Placed, head_size, placed, in_table, of_table, count, bucket_of, bucket_bytes, table, entries_before, has_id}
+use Rattle.image.specs.Image.{placed_of_id}
 use Rattle.image.specs.Image.{last_from, back_word, entries_end, image_size, image}
 use Rattle.image.specs.Tables.{Bucket, empty, Filled}
 use Rattle.image.proofs.At.{at_left, at_word, at_second}
@@ -46,9 +47,10 @@ module _ (mode : Mode) (es : List Entry) (fits : image_size mode es ≤ 42949672
   bucket_words t =
       filled_all Words (2 * count t ps) (map bucket_of (of_table t ps)) (omega arith)
       (all_image Words bucket_of (λ p s. (hash_of_below p.entry.name, omega (arith, length_image mode es, entry_fits p.entry s.there)))
-      (of_table t ps) (all_filter (EntryAt (image mode es)) (in_table_lem t) (placed head_size es) (all_entries_at mode es)))
+      (of_table t ps) (all_filter (EntryAt (image mode es)) (in_table t) (placed head_size es) (all_entries_at mode es)))
 
-  table_filled_lem : (t : ℕ) → t < 256 → Filled (2 * count t ps) (bucket_at (image mode es) (entries_end es + 16 * entries_before t ps)) (map bucket_of (of_table t ps))
+  table_filled_lem : (t : ℕ) → t < 256 → Filled (2 * count t ps) (bucket_at (image mode es) (entries_end es + 16 * entries_before t ps))
+      (map bucket_of (of_table t ps))
   unfolding table ps bucket_bytes
   table_filled_lem t h = record {
     each = λ k m.

@@ -5,7 +5,8 @@ use mathlib.Core.Bool.{true}
 use mathlib.Core.List.{List, map}
 use lib.ListN.{length}
 use Rattle.image.specs.Bytes.{word, cat}
-use Rattle.image.specs.Image.{Entry, head_size, entry_bytes, placed, of_table, count, bucket_of, entries_before, table_offset, flag_word, back_size_of, back_offset}
+use Rattle.image.specs.Image.{Entry, head_size, entry_bytes, placed, of_table, count, bucket_of, entries_before, table_offset, flag_word, back_size_of}
+use Rattle.image.specs.Image.{back_offset}
 use Rattle.image.specs.Image.{entries_end, image_size, back_word}
 use Rattle.image.specs.Head.{table_at, bucket_number}
 use Rattle.image.specs.Tables.{Filled}

@@ -9,7 +9,8 @@ use lib.ListN.{length, get_or, length-append}
 use borrow.Author.Tests.{eqb-true}
 use Rattle.image.specs.Bytes.{word, le32, cat, range}
 use Rattle.image.specs.Image.{Entry, Placed, head_size, entry_bytes, placed, count, bucket_bytes, table, table_bytes, entries_before}
-use Rattle.image.specs.Image.{table_offset, table_row, table_rows, tables, back_word, back_words, flag_word, back_size_of, back_offset, entries_end, image_size}
+use Rattle.image.specs.Image.{table_offset, table_row, table_rows, tables, back_word, back_words, flag_word, back_size_of, back_offset, entries_end}
+use Rattle.image.specs.Image.{image_size}
 use Rattle.image.specs.Image.{head_bytes, head_words, image}
 use Rattle.image.specs.Tables.{empty}
 use Rattle.image.proofs.EntryArea.{AllBytes}

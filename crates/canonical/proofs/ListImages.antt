@@ -58,7 +58,8 @@ module _ (mode : Mode) (repeats : Repeats) (buffer : List ℕ) (room : head_size
 -- two lists that close to the same image have the same accepted puts
 pub lists_injective : (mode : Mode) (repeats₁ : Repeats) (buffer₁ : List ℕ) (room₁ : head_size ≤ length buffer₁) (cs₁ : List Call) (word₁ : WordIds mode cs₁)
     (repeats₂ : Repeats) (buffer₂ : List ℕ) (room₂ : head_size ≤ length buffer₂) (cs₂ : List Call) (word₂ : WordIds mode cs₂)
-    → image_of mode repeats₁ buffer₁ cs₁ ≡ image_of mode repeats₂ buffer₂ cs₂ → accepted_puts mode repeats₁ buffer₁ cs₁ ≡ accepted_puts mode repeats₂ buffer₂ cs₂
+    → image_of mode repeats₁ buffer₁ cs₁ ≡ image_of mode repeats₂ buffer₂ cs₂ → accepted_puts mode repeats₁ buffer₁ cs₁
+    ≡ accepted_puts mode repeats₂ buffer₂ cs₂
 lists_injective mode repeats₁ buffer₁ room₁ cs₁ word₁ repeats₂ buffer₂ room₂ cs₂ word₂ e =
     sym (list_puts mode repeats₁ buffer₁ room₁ cs₁ word₁) ∙ ap puts_in e ∙ list_puts mode repeats₂ buffer₂ room₂ cs₂ word₂
 

@@ -4,7 +4,7 @@ use mathlib.Core.List.{List, [], ◌∷◌, map}
 use Prim.Native.Nat.{ℕ, suc, ◌+◌}
 use native.Mathlib.Omega.{arith}
 use Rattle.image.specs.Bytes.{filter}
-use Rattle.image.specs.Image.{Entry, Placed, head_size, entry_size, placed, in_table_lem, of_table, bucket_of}
+use Rattle.image.specs.Image.{Entry, Placed, head_size, entry_size, placed, in_table, of_table, bucket_of}
 use Rattle.canonical.specs.Steps.HiddenBuckets.{Rising}
 use Rattle.canonical.proofs.Sums.{rising_less}
 use Rattle.canonical.proofs.BackArray.{offsets}
@@ -31,4 +31,4 @@ all_rise es = rising_less 1 head_size (offsets (placed head_size es)) (omega ari
 
 pub table_rises : (es : List Entry) (t : ℕ) → Rising 1 (bucket_offsets (map bucket_of (of_table t (placed head_size es))))
 unfolding of_table
-table_rises es t = rises_keep (in_table_lem t) 1 (placed head_size es) (all_rise es)
+table_rises es t = rises_keep (in_table t) 1 (placed head_size es) (all_rise es)

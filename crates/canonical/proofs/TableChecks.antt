@@ -55,7 +55,8 @@ none_past_end img t (suc m) k e l h some = elim (ℕ_discrete t k) [
   | no d ↦ none_past_end img (suc t) m k (or_false_second (ltb 0 (table_at img t) && table_past_end img t) _ e) (omega arith) (omega arith) some
 ]
   where
-    inside_here : ((ltb 0 (table_at img k) && table_past_end img k) || some_past_end img (suc k) m) ≡ false → table_at img k + 8 * bucket_number img k ≤ length img
+    inside_here : ((ltb 0 (table_at img k) && table_past_end img k) || some_past_end img (suc k) m) ≡ false → table_at img k
+        + 8 * bucket_number img k ≤ length img
     inside_here f =
         let x = or_false_first (ltb 0 (table_at img k) && table_past_end img k) (some_past_end img (suc k) m) f in
         ltb-false (length img) (table_at img k + 8 * bucket_number img k) (rw (lt-ltb 0 (table_at img k) some) at x)

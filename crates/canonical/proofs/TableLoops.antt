@@ -115,7 +115,8 @@ module _ {img : List ℕ} {end o t : ℕ} (p : CheckRowsPre img end) (r : Rows i
       && table_ok img o (row_count img t))
   unfolding row_ok
   row_is =
-      ap (λ (o : ℕ). eqb (bucket_number img t) (2 * row_count img t) && eqb (table_at img t) (cond (eqb (row_count img t) 0) 0 o) && table_ok img o (row_count img t))
+      ap (λ (o : ℕ). eqb (bucket_number img t) (2 * row_count img t) && eqb (table_at img t) (cond (eqb (row_count img t) 0) 0 o)
+      && table_ok img o (row_count img t))
       (sym r.place)
 
   pub table_buckets : (Number → ⊥) → false ≡ rows_ok img end

@@ -9,7 +9,7 @@ use borrow.Author.Tests.{eq-eqb, ne_eqb}
 use Rattle.jhash.specs.NameHash.{hash_of}
 use Rattle.image.specs.declared.Mode.{Mode}
 use Rattle.image.specs.Tables.{table_of}
-use Rattle.image.specs.Image.{Entry, Placed, entry_size, entries_size, placed, in_table_lem, count, back_size, image_size}
+use Rattle.image.specs.Image.{Entry, Placed, entry_size, entries_size, placed, in_table, count, back_size, image_size}
 use Rattle.image.proofs.Sizes.{entries_size-append, placed_append, count_nil, count_cons, count_append}
 use Rattle.lists.specs.Calls.{puts_size, size_of}
 
@@ -41,7 +41,7 @@ back_size-snoc (x ∷ es) e = omega (arith, back_size-snoc es e)
 
 pub count_within : (t : ℕ) (ps : List Placed) → count t ps ≤ length ps
 count_within t [] = omega (arith, count_nil t)
-count_within t (p ∷ ps) = within_with_first (in_table_lem t p) (count_within t ps) (count_cons t p ps)
+count_within t (p ∷ ps) = within_with_first (in_table t p) (count_within t ps) (count_cons t p ps)
   where
     within_with_first : (b : Bool) → count t ps ≤ length ps → count t (p ∷ ps) ≡ cond b 1 0 + count t ps → count t (p ∷ ps) ≤ length (p ∷ ps)
     within_with_first true h e = omega arith
@@ -49,7 +49,7 @@ count_within t (p ∷ ps) = within_with_first (in_table_lem t p) (count_within t
 
 -- the entry's own table has one more, every other as many as before
 module _ (t o : ℕ) (es : List Entry) (e : Entry) where
-  count_one : (b : Bool) → in_table_lem t (record { entry = e; at = o + entries_size es }) ≡ b → count t (placed (o + entries_size es) (e ∷ [])) ≡ cond b 1 0
+  count_one : (b : Bool) → in_table t (record { entry = e; at = o + entries_size es }) ≡ b → count t (placed (o + entries_size es) (e ∷ [])) ≡ cond b 1 0
   unfolding placed
   count_one b h =
       count_cons t (record { entry = e; at = o + entries_size es }) []
@@ -60,7 +60,7 @@ module _ (t o : ℕ) (es : List Entry) (e : Entry) where
       nothing_more : (n : ℕ) → n + 0 ≡ n
       nothing_more n = omega arith
 
-  count_snoc : (b : Bool) → in_table_lem t (record { entry = e; at = o + entries_size es }) ≡ b
+  count_snoc : (b : Bool) → in_table t (record { entry = e; at = o + entries_size es }) ≡ b
       → count t (placed o (es ++ (e ∷ []))) ≡ count t (placed o es) + cond b 1 0
   count_snoc b h =
       ap (count t) (placed_append o es (e ∷ []))

@@ -66,7 +66,8 @@ module _ (mode : Mode) (es : List Entry) (small : image_size mode es ≤ 4294967
   back_word_read : (i : ℕ) → i < back_size_of mode es → word (image mode es) (back_offset mode es + 4 * i) ≡ back_word (placed head_size es) i
   unfolding back_offset
   back_word_read i h =
-      rw (ne_eqb (back_size_of mode es) 0 (λ z. omega arith)) (at_word (back_word (placed head_size es) i) (back_word_at mode es small i h) (back_word_small i))
+      rw (ne_eqb (back_size_of mode es) 0 (λ z. omega arith)) (at_word (back_word (placed head_size es) i) (back_word_at mode es small i h)
+      (back_word_small i))
 
   back_array_lem : back_array (image mode es) ≡ map (back_word (placed head_size es)) (range 0 (back_size_of mode es))
   back_array_lem =
@@ -134,7 +135,8 @@ module _ (r : ListRow) (c : Computed r) where
 -- ---- the rows
 
 computed : (repeats : Repeats) → Each Computed (example_rows repeats)
-unfolding accepted accepted_from due due_from put_due has_zero contains_name size_of puts_size back_size entries_size back_offset placed placed_of_id of_id filter back_word
+unfolding accepted accepted_from due due_from put_due has_zero contains_name size_of puts_size back_size entries_size back_offset placed
+    placed_of_id of_id filter back_word
     last_from range of_name same
 computed repeats = (
   (lit≤ tt, tt, refl, refl, refl, refl, refl, (refl, tt), ((refl, refl), tt)),
@@ -164,7 +166,8 @@ computed repeats = (
 
 -- C6, and C6 without the repeats mode
 computed_named : Each Computed named_rows
-unfolding accepted accepted_from due due_from put_due has_zero contains_name size_of puts_size back_size entries_size back_offset placed placed_of_id of_id filter back_word
+unfolding accepted accepted_from due due_from put_due has_zero contains_name size_of puts_size back_size entries_size back_offset placed
+    placed_of_id of_id filter back_word
     last_from range of_name same
 computed_named = (
   (lit≤ tt, (tt, (tt, tt)), refl, refl, refl, refl, refl, (refl, tt), ((refl, refl), ((refl, refl), tt))),

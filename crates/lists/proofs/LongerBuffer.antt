@@ -113,7 +113,8 @@ module _ (mode : Mode) (repeats : Repeats) (n : ℕ) (es : List Entry) (s t : St
 
 -- ---- the record in a longer buffer
 
-module _ (mode : Mode) (repeats : Repeats) (n : ℕ) (es : List Entry) (s : State) (w : Written mode repeats n es s) (longer : List ℕ) (l : Longer longer s) where
+module _ (mode : Mode) (repeats : Repeats) (n : ℕ) (es : List Entry) (s : State) (w : Written mode repeats n es s) (longer : List ℕ)
+    (l : Longer longer s) where
   abbrev there : State
   there = state_with (with_length s.writer (length longer)) s.counts longer
 

@@ -20,7 +20,7 @@ use Rattle.consistency.specs.Panel.{agree_on, readings_agree}
 use Rattle.consistency.proofs.Panels.{agree_named, agree_unnamed}
 use Rattle.lookup_laws.specs.Answer.{bytes_at, name_given, of_id, last_name}
 use Rattle.writer.specs.declared.Repeats.{Repeats}
-use Rattle.lists.specs.Calls.{Call, put, close, accepted_one, put_due, accepted_from, accepted, WordIds}
+use Rattle.lists.specs.Calls.{Call, put, close, accepted_one, put_due, accepted_after, accepted_from, accepted, WordIds}
 use Rattle.lists.specs.Demand3.{image_of}
 use Rattle.lists.specs.Theorems.Readings.{Readings}
 use Rattle.lists.proofs.ImageRead.{named_in, Read}
@@ -43,8 +43,9 @@ unfolding accepted_from
 free_from mode repeats n es [] all = all
 free_from mode repeats n es (put e ∷ cs) all =
     let one = one_free mode repeats n es e (eqb (put_due mode repeats n es e) 0) refl in
-    free_from mode repeats n _ cs (all_append Free es (accepted_one (put e) (put_due mode repeats n es e)) all one)
-free_from mode repeats n es (close ∷ cs) all = free_from mode repeats n _ cs (all_append Free es [] all tt)
+    free_from mode repeats n (accepted_after mode repeats n es (put e)) cs (all_append Free es (accepted_one (put e) (put_due mode repeats n es e)) all one)
+free_from mode repeats n es (close ∷ cs) all =
+    free_from mode repeats n (accepted_after mode repeats n es close) cs (all_append Free es [] all tt)
 
 pub accepted_free : (mode : Mode) (repeats : Repeats) (n : ℕ) (cs : List Call) → All Free (accepted mode repeats n cs)
 unfolding accepted

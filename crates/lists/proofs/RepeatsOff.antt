@@ -87,7 +87,8 @@ put_all-append (e ∷ es) fs = ap (λ (cs : List Call). put e ∷ cs) (put_all-a
 
 pub same_image : (mode : Mode) (repeats₁ : Repeats) (buffer₁ : List ℕ) (cs₁ : List Call) (repeats₂ : Repeats) (buffer₂ : List ℕ) (cs₂ : List Call)
     → head_size ≤ length buffer₁ → head_size ≤ length buffer₂ → WordIds mode cs₁ → WordIds mode cs₂
-    → accepted_puts mode repeats₁ buffer₁ cs₁ ≡ accepted_puts mode repeats₂ buffer₂ cs₂ → image_of mode repeats₁ buffer₁ cs₁ ≡ image_of mode repeats₂ buffer₂ cs₂
+    → accepted_puts mode repeats₁ buffer₁ cs₁ ≡ accepted_puts mode repeats₂ buffer₂ cs₂ → image_of mode repeats₁ buffer₁ cs₁
+    ≡ image_of mode repeats₂ buffer₂ cs₂
 same_image mode repeats₁ buffer₁ cs₁ repeats₂ buffer₂ cs₂ room₁ room₂ word₁ word₂ h =
     calls_imaged mode repeats₁ buffer₁ cs₁ room₁ word₁ ∙ ap (image mode) h ∙ sym (calls_imaged mode repeats₂ buffer₂ cs₂ room₂ word₂)
 

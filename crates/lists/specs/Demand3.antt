@@ -2,7 +2,8 @@
 -- writer on one buffer, whatever its bytes, with either choice of 02 (viii), repeats off or on.
 --
 -- It is stated by the definitions in which the public functions make their promises: `beginning` and `counts_begun` of
--- begin, `put_refusal` and `after_put` of put, `closing` and `after_close` of close, `opening` of open, `lookup` of to_id,
+-- begin, `put_refusal` and `after_put` of put, `closing` and `after_close` of close, `opening` of open, `lookup` of
+-- to_id,
 -- `naming` of to_str. The theorem is `demand3` in proofs/Theorem.
 use Rattle.std.specs.Prelude.{ℕ, ◌+◌, ◌≤◌, ◌≡◌, ◌↔◌, List, [], length}
 use Rattle.std.proofs.Math.Option.{none, some}

@@ -101,7 +101,8 @@ module _ (seed : ℕ) (buffer : List ℕ) (room : head_size ≤ length buffer) w
       (list_written Twoway On buffer room (first_puts seed k) (two_way_lem (first_puts seed k))) (load_entry seed k)
       ∙ ap (λ (es : List Entry). put_due Twoway On (length buffer) es (load_entry seed k)) (accepted_first k h)
 
-  pub after_next : (k : ℕ) → after_list Twoway On buffer (first_puts seed (suc k)) ≡ after_put (after_list Twoway On buffer (first_puts seed k)) (load_entry seed k)
+  pub after_next : (k : ℕ) → after_list Twoway On buffer (first_puts seed (suc k))
+      ≡ after_put (after_list Twoway On buffer (first_puts seed k)) (load_entry seed k)
   unfolding after
   after_next k = ap (after_list Twoway On buffer) (puts_next k) ∙ after_append (fresh Twoway On buffer) (first_puts seed k) (put (load_entry seed k) ∷ [])
 

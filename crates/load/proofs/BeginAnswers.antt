@@ -27,24 +27,24 @@ pub record LoadClosed (seed : ℕ) (buffer : List ℕ) : Type 0 where
 
 module _ (seed : ℕ) (buffer : List ℕ) where
   -- begin is refused, and so is the load; nothing is written
-  pub refused_load : {P : Type 0} (k : ℕ) (b : Outcome CQDBWriter) → (b ≡ beginning Twoway On (length buffer)) × P → b ≡ refusal k
+  pub refused_load : (k : ℕ) (b : Outcome CQDBWriter) → b ≡ beginning Twoway On (length buffer) → b ≡ refusal k
       → (refusal k ≡ loading seed buffer) × (buffer ≡ after_load seed buffer)
   unfolding beginning loading after_load
   refused_load k b begun h =
       let due = begin_refusal (length buffer) in
       let w = fresh_writer Twoway On (length buffer) in
-      let chosen = chose_second (eqb due 0) (value w) (refusal due) (refusal k) (λ z. no_value k w (sym z)) (sym begun.0 ∙ h) in
+      let chosen = chose_second (eqb due 0) (value w) (refusal due) (refusal k) (λ z. no_value k w (sym z)) (sym begun ∙ h) in
       rw chosen.0 (ap (λ (n : ℕ). refusal n) (sym (same_refusal {A = CQDBWriter} due k chosen.1)), refl)
 
   -- begin is accepted: the record is fresh
   pub begun_fresh : (w : CQDBWriter) (b : Outcome CQDBWriter) (lent counts : List ℕ)
-      → (b ≡ beginning Twoway On (length buffer)) × (counts ≡ counts_begun (length buffer) lent) → b ≡ value w → BegunFresh buffer w counts
+      → b ≡ beginning Twoway On (length buffer) → counts ≡ counts_begun (length buffer) lent → b ≡ value w → BegunFresh buffer w counts
   unfolding beginning counts_begun fresh
-  begun_fresh w b lent counts begun is =
+  begun_fresh w b lent counts begun clears is =
       let due = begin_refusal (length buffer) in
       let begins = fresh_writer Twoway On (length buffer) in
-      let chosen = chose_first (eqb due 0) (value begins) (refusal due) (value w) (no_value due w) (sym begun.0 ∙ is) in
-      let cleared : counts ≡ replicate 256 0 = begun.1 ∙ ap (λ (t : Bool). cond t (replicate 256 0) lent) chosen.0 in
+      let chosen = chose_first (eqb due 0) (value begins) (refusal due) (value w) (no_value due w) (sym begun ∙ is) in
+      let cleared : counts ≡ replicate 256 0 = clears ∙ ap (λ (t : Bool). cond t (replicate 256 0) lent) chosen.0 in
       record {
         accepts = chosen.0;
         is_fresh = ap₂ (λ (x : CQDBWriter) (l : List ℕ). state_with x l buffer) (sym (same_value begins w chosen.1)) cleared;
@@ -55,10 +55,10 @@ module _ (seed : ℕ) (buffer : List ℕ) where
   accepted_load t = record { gives = rw t refl; leaves = rw t refl }
 
   -- and the code: s is what the puts leave, u what close leaves of it
-  pub closed_load : {P : Type 0} (s u : State) → eqb (begin_refusal (length buffer)) 0 ≡ true → s ≡ load_put seed buffer
-      → P × (u ≡ after_close s) → (value s.writer.entries ≡ loading seed buffer) × (u.buffer ≡ after_load seed buffer)
+  pub closed_load : (s u : State) → eqb (begin_refusal (length buffer)) 0 ≡ true → s ≡ load_put seed buffer
+      → u ≡ after_close s → (value s.writer.entries ≡ loading seed buffer) × (u.buffer ≡ after_load seed buffer)
   closed_load s u t is close =
       let done = accepted_load t in (
         ap (λ (x : State). value x.writer.entries) is ∙ done.gives,
-        ap (λ (x : State). x.buffer) close.1 ∙ ap (λ (x : State). (after_close x).buffer) is ∙ done.leaves,
+        ap (λ (x : State). x.buffer) close ∙ ap (λ (x : State). (after_close x).buffer) is ∙ done.leaves,
       )

@@ -56,7 +56,8 @@ digit_read_lem d h = read_by_kind (ltb d 10) refl
 
 -- eight digits of a word: each one more gives one division by 16 less
 word_digits : (s : ℕ) → s < 2 ^ 32
-    → ((((((((0 * 16 + s / 268435456 % 16) * 16 + s / 16777216 % 16) * 16 + s / 1048576 % 16) * 16 + s / 65536 % 16) * 16 + s / 4096 % 16) * 16 + s / 256 % 16)
+    → ((((((((0 * 16 + s / 268435456 % 16) * 16 + s / 16777216 % 16) * 16 + s / 1048576 % 16) * 16 + s / 65536 % 16) * 16 + s / 4096 % 16) * 16
+    + s / 256 % 16)
     * 16 + s / 16 % 16) * 16 + s % 16) ≡ s
 word_digits s h =
     let d7 : 0 * 16 + s / 268435456 % 16 ≡ s / 268435456 = omega arith in

@@ -40,7 +40,8 @@ module _ (img : List ℕ) where
   first o [] f said h = let z : ◌≡◌ {A = ℕ} 0 1 = cc in absurd (omega arith)
   first o (e ∷ es) f said h = here_or_later (first (o + entry_size e) es f said.1) (eqb (kind_in img e) 0) refl h
     where
-      here_or_later : (first_failure (kind_in img) (o + entry_size e) es ≡ some f → First img (o + entry_size e) es f) → (t : Bool) → eqb (kind_in img e) 0 ≡ t
+      here_or_later : (first_failure (kind_in img) (o + entry_size e) es ≡ some f → First img (o + entry_size e) es f) → (t : Bool)
+          → eqb (kind_in img e) 0 ≡ t
           → cond t (first_failure (kind_in img) (o + entry_size e) es) (some (failure (kind_in img e) o)) ≡ some f → First img o (e ∷ es) f
       here_or_later rest true t q =
           let r = rest q in

@@ -14,7 +14,8 @@ use Rattle.image.specs.Tables.{table_of, start, probe_sequence}
 use Rattle.jhash.specs.Word.{AllBytes}
 use Rattle.image.proofs.AllOfList.{All, all_map}
 use Rattle.reader.specs.Cases.{reads}
-use Rattle.reader.specs.Lookup.{Lookup, found, nothing, Probe, pass, ends, hit, probe_bucket, decide, search_along, search_table, unsearched, lookup_hash, lookup}
+use Rattle.reader.specs.Lookup.{Lookup, found, nothing, Probe, pass, ends, hit, probe_bucket, decide, search_along, search_table, unsearched, lookup_hash}
+use Rattle.reader.specs.Lookup.{lookup}
 use Rattle.reader.specs.declared.Found.{Found}
 use Rattle.reader.proofs.FoundAt.{not_found}
 use Rattle.lookup_laws.specs.Answer.{found_id, table_puts}

@@ -10,8 +10,10 @@ use Rattle.jhash.specs.NameHash.{hash_of}
 use Rattle.jhash.specs.Outcome.{Outcome, value}
 use Rattle.jhash.proofs.Vectors.{hash_A, hash_I, hash_Q}
 use Rattle.image.specs.Bytes.{word, le32, cat, filter, range, same}
-use Rattle.image.specs.Image.{Entry, Placed, head_size, entry_size, entries_end, back_size_of, bucket_of, image_size, entry_bytes, entries_size, placed, of_table}
-use Rattle.image.specs.Image.{bucket_bytes, table, table_bytes, entries_before, table_offset, table_row, back_size, placed_of_id, last_from, back_word, back_offset}
+use Rattle.image.specs.Image.{Entry, Placed, head_size, entry_size, entries_end, back_size_of, bucket_of, image_size, entry_bytes, entries_size, placed}
+use Rattle.image.specs.Image.{of_table}
+use Rattle.image.specs.Image.{bucket_bytes, table, table_bytes, entries_before, table_offset, table_row, back_size, placed_of_id, last_from, back_word}
+use Rattle.image.specs.Image.{back_offset}
 use Rattle.image.specs.Image.{head_bytes, head_words, table_rows, tables, back_words, image}
 use Rattle.image.specs.Tables.{Bucket, table_of, probe_sequence, first_empty, insert, insert_all, filled}
 use Rattle.image.specs.Stored.{entries_in}
@@ -26,7 +28,7 @@ use Rattle.reader.specs.Open.{opening}
 use Rattle.canonical.specs.Steps.Made.{Storable, Made}
 use Rattle.canonical.specs.Canonical.{puts_in, no_zero_bytes, canonical}
 use Rattle.canonical.proofs.ReadBack.{made_puts, canonical_yes}
-use Rattle.search_length.specs.SearchLengths.{total_of_lem}
+use Rattle.search_length.specs.SearchLengths.{total_of}
 use Rattle.search_length.specs.Average.{entry_count, total, averaging}
 use Rattle.search_length.specs.Examples.Rows.{Averages, letter, average_rows}
 use Rattle.search_length.specs.declared.AverageLength.{AverageLength}
@@ -42,12 +44,12 @@ module _ (mode : Mode) (es : List Entry) (each : All Storable es) (fits : image_
   entries_are = made_puts (image mode es) made
 
   -- so its average follows from the lookups alone
-  averaged : (n s : ℕ) → length es ≡ n → 0 < n → total_of_lem (image mode es) es ≡ s
+  averaged : (n s : ℕ) → length es ≡ n → 0 < n → total_of (image mode es) es ≡ s
       → averaging (image mode es) ≡ value (record { entries = n; quotient = s / n; remainder = s % n })
   unfolding averaging total
   averaged n s long some sum =
       let number : entry_count (image mode es) ≡ n = ap length entries_are ∙ long in
-      let all : total (image mode es) ≡ s = ap (total_of_lem (image mode es)) entries_are ∙ sum in
+      let all : total (image mode es) ≡ s = ap (total_of (image mode es)) entries_are ∙ sum in
       let none = average_search.accepted (image mode es) (canonical_yes (image mode es) made) (omega (arith, number)) in
       rw none (ap₂ average_from all number)
     where
@@ -121,26 +123,29 @@ module _ (mode : Mode) (e₁ e₂ : Entry) (h₁ h₂ : ℕ) (is₁ : hash_of e�
       ++ cat (λ (t : ℕ). cat bucket_bytes (filled (2 * length (entries_of t i)) (buckets_of t i))) (range 0 256)
       ++ back_words (p₁ ∷ p₂ ∷ []) (back_size_of mode es)
 
-  total_of : total_of_lem (image mode es) es ≡ reads (lookup_by bytes e₁.name h₁) + (reads (lookup_by bytes e₂.name h₂) + 0)
-  unfolding total_of_lem
-  total_of =
-      ap (λ (l : List ℕ). total_of_lem l es) bytes_are
+  total_of_lem : total_of (image mode es) es ≡ reads (lookup_by bytes e₁.name h₁) + (reads (lookup_by bytes e₂.name h₂) + 0)
+  unfolding total_of
+  total_of_lem =
+      ap (λ (l : List ℕ). total_of l es) bytes_are
       ∙ ap₂ (λ (x y : Lookup). reads x + (reads y + 0)) (sym (lookup_own bytes e₁.name h₁ (λ s. sym is₁)))
       (sym (lookup_own bytes e₂.name h₂ (λ s. sym is₂)))
 
-crowded : total_of_lem (image Twoway (letter 73 0 ∷ letter 81 1 ∷ [])) (letter 73 0 ∷ letter 81 1 ∷ []) ≡ 3
-unfolding word le32 cat range same entry_bytes entries_size bucket_bytes back_size placed_of_id last_from back_word back_offset head_bytes head_words back_words
+crowded : total_of (image Twoway (letter 73 0 ∷ letter 81 1 ∷ [])) (letter 73 0 ∷ letter 81 1 ∷ []) ≡ 3
+unfolding word le32 cat range same entry_bytes entries_size bucket_bytes back_size placed_of_id last_from back_word back_offset head_bytes
+    head_words back_words
     probe_sequence first_empty insert insert_all filled probe_entry probe_bucket search_along search_table lookup_hash lookup_by before bytes
-crowded = total_of Twoway (letter 73 0) (letter 81 1) 0xcae4bcb3 0x27d3a0b3 hash_I hash_Q
+crowded = total_of_lem Twoway (letter 73 0) (letter 81 1) 0xcae4bcb3 0x27d3a0b3 hash_I hash_Q
 
-repeated : total_of_lem (image Oneway (letter 65 5 ∷ letter 65 9 ∷ [])) (letter 65 5 ∷ letter 65 9 ∷ []) ≡ 2
-unfolding word le32 cat range same entry_bytes entries_size bucket_bytes back_size placed_of_id last_from back_word back_offset head_bytes head_words back_words
+repeated : total_of (image Oneway (letter 65 5 ∷ letter 65 9 ∷ [])) (letter 65 5 ∷ letter 65 9 ∷ []) ≡ 2
+unfolding word le32 cat range same entry_bytes entries_size bucket_bytes back_size placed_of_id last_from back_word back_offset head_bytes
+    head_words back_words
     probe_sequence first_empty insert insert_all filled probe_entry probe_bucket search_along search_table lookup_hash lookup_by before bytes
-repeated = total_of Oneway (letter 65 5) (letter 65 9) 0x89284101 0x89284101 hash_A hash_A
+repeated = total_of_lem Oneway (letter 65 5) (letter 65 9) 0x89284101 0x89284101 hash_A hash_A
 
 -- no bytes are no image
 nothing : canonical [] ≡ false
-unfolding word le32 cat filter range same entry_bytes entries_size placed of_table bucket_bytes table table_bytes entries_before table_offset table_row back_size
+unfolding word le32 cat filter range same entry_bytes entries_size placed of_table bucket_bytes table table_bytes entries_before table_offset
+    table_row back_size
     placed_of_id last_from back_word back_offset head_bytes head_words table_rows tables back_words image probe_sequence first_empty insert insert_all filled
     entries_in has_zero opening puts_in no_zero_bytes canonical
 nothing = refl

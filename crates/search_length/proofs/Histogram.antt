@@ -11,7 +11,7 @@ use lib.Dec.{eqb}
 use borrow.Author.Tests.{eq-eqb, ne_eqb}
 use Rattle.image.specs.Image.{Entry}
 use Rattle.canonical.specs.Canonical.{puts_in}
-use Rattle.search_length.specs.SearchLengths.{search_length, total_of_lem, bin_of, lengths_from, in_bin}
+use Rattle.search_length.specs.SearchLengths.{search_length, total_of, bin_of, lengths_from, in_bin}
 use Rattle.search_length.specs.Average.{total, lengths_of}
 use Rattle.search_length.specs.Steps.Contracts.{Counted}
 use Rattle.image.specs.Tally.{one_more}
@@ -51,7 +51,7 @@ pub record Counting (img : List ℕ) (n : ℕ) (counts : List ℕ) (left sum : �
   pub same : lengths_from img counts es ≡ lengths_of img
   pub small : (t : ℕ) → get_or counts t 0 + left ≤ n
   pub sixteen : length counts ≡ 16
-  pub whole : sum + total_of_lem img es ≡ total img
+  pub whole : sum + total_of img es ≡ total img
   pub sum_small : sum + left * 4294967295 ≤ n * 4294967295
 
 pub zeros : (n t : ℕ) → ◌≡◌ {A = ℕ} (get_or (replicate n 0) t 0) 0
@@ -75,7 +75,7 @@ counting_starts img counts n z = record {
 module _ {img : List ℕ} {n : ℕ} {counts : List ℕ} {left sum : ℕ} where
   pub counting_next : {e : Entry} {es : List Entry} → Counting img n counts left sum (e ∷ es) → 0 < left → (r : ℕ) (counted : List ℕ) → r < 4294967296
       → r ≡ search_length img e → counted ≡ one_more counts (bin_of r) → Counting img n counted (left - 1) (sum + r) es
-  unfolding lengths_from total_of_lem
+  unfolding lengths_from total_of
   counting_next {e} {es} c h r counted small a m =
       let d : counted ≡ one_more counts (bin_of (search_length img e)) = m ∙ ap (λ (k : ℕ). one_more counts (bin_of k)) a in
       record {
@@ -87,7 +87,7 @@ module _ {img : List ℕ} {n : ℕ} {counts : List ℕ} {left sum : ℕ} where
       }
 
   pub counting_ends : Counting img n counts left sum [] → Counted img counts sum
-  unfolding lengths_from total_of_lem
+  unfolding lengths_from total_of
   counting_ends c = record { lengths = c.same; total = omega (arith, c.whole) }
 
 -- ---- what the counts are
@@ -118,7 +118,8 @@ module _ (img : List ℕ) where
       elim (ℕ_discrete k p) [
         | yes q ↦
             let one : ◌≡◌ {A = ℕ} (cond (eqb p k) 1 0) 1 = ap (λ (t : Bool). cond {A = ℕ} t 1 0) (eq-eqb p k (sym q)) in
-            let same : get_or (one_more counts p) k 0 ≡ get_or counts k 0 + 1 = rw q (more_same counts p (omega (arith, place_small (search_length img e)))) in
+            let same : get_or (one_more counts p) k 0 ≡ get_or counts k 0
+            + 1 = rw q (more_same counts p (omega (arith, place_small (search_length img e)))) in
             omega (arith, rest, one, same)
         | no d ↦
             let none : ◌≡◌ {A = ℕ} (cond (eqb p k) 1 0) 0 = ap (λ (t : Bool). cond {A = ℕ} t 1 0) (ne_eqb p k (λ z. d (sym z))) in

@@ -18,7 +18,7 @@ use Rattle.jhash.specs.Word.{AllBytes}
 use Rattle.image.proofs.AllOfList.{All}
 use Rattle.lookup_laws.specs.Answer.{table_puts}
 use Rattle.canonical.specs.Canonical.{canonical, puts_in}
-use Rattle.search_length.specs.SearchLengths.{search_length, total_of_lem}
+use Rattle.search_length.specs.SearchLengths.{search_length, total_of}
 use Rattle.search_length.specs.Average.{entry_count, total, average_refusal, average_of, averaging, lengths_of, after_lengths}
 use Rattle.search_length.specs.Theorems.AverageSearch.{name_in_table, entries_of_table, bound_of, sum, Searched, AverageSearch}
 use Rattle.search_length.specs.declared.AverageLength.{AverageLength}
@@ -28,33 +28,33 @@ use Rattle.search_length.proofs.EntriesFound.{Bounded, all_bounded}
 
 -- ---- sums over entries
 
-total_least : (img : List ℕ) (all es : List Entry) → All (Bounded img all) es → length es ≤ total_of_lem img es
-unfolding total_of_lem
+total_least : (img : List ℕ) (all es : List Entry) → All (Bounded img all) es → length es ≤ total_of img es
+unfolding total_of
 total_least img all [] b = omega arith
 total_least img all (e ∷ es) b = omega (arith, b.0.0, total_least img all es b.1)
 
-total_most : (img : List ℕ) (all es : List Entry) → All (Bounded img all) es → total_of_lem img es ≤ bound_of all es
-unfolding total_of_lem bound_of
+total_most : (img : List ℕ) (all es : List Entry) → All (Bounded img all) es → total_of img es ≤ bound_of all es
+unfolding total_of bound_of
 total_most img all [] b = omega arith
 total_most img all (e ∷ es) b = omega (arith, b.0.1, total_most img all es b.1)
 
 total_each : (img : List ℕ) (before : List Entry) (e : Entry) (behind : List Entry)
-    → total_of_lem img (before ++ e ∷ behind) ≡ search_length img e + total_of_lem img (before ++ behind)
-unfolding total_of_lem
+    → total_of img (before ++ e ∷ behind) ≡ search_length img e + total_of img (before ++ behind)
+unfolding total_of
 total_each img [] e behind = refl
 total_each img (f ∷ before) e behind = omega (arith, total_each img before e behind)
 
 -- ---- table by table
 
 -- a table's number of puts, with or without their places
-places_kept : (t o : ℕ) (es : List Entry) → length (filter (image.in_table_lem t) (placed o es)) ≡ length (filter (name_in_table t) es)
+places_kept : (t o : ℕ) (es : List Entry) → length (filter (image.in_table t) (placed o es)) ≡ length (filter (name_in_table t) es)
 unfolding filter placed
 places_kept t o [] = refl
 places_kept t o (e ∷ es) = either_kept (eqb (table_of (hash_of e.name)) t) (places_kept t (o + entry_size e) es)
   where
-    either_kept : (b : Bool) → length (filter (image.in_table_lem t) (placed (o + entry_size e) es)) ≡ length (filter (name_in_table t) es)
-        → length (cond b (record { entry = e; at = o } ∷ filter (image.in_table_lem t) (placed (o + entry_size e) es))
-        (filter (image.in_table_lem t) (placed (o + entry_size e) es)))
+    either_kept : (b : Bool) → length (filter (image.in_table t) (placed (o + entry_size e) es)) ≡ length (filter (name_in_table t) es)
+        → length (cond b (record { entry = e; at = o } ∷ filter (image.in_table t) (placed (o + entry_size e) es))
+        (filter (image.in_table t) (placed (o + entry_size e) es)))
         ≡ length (cond b (e ∷ filter (name_in_table t) es) (filter (name_in_table t) es))
     either_kept true h = omega arith
     either_kept false h = h
@@ -64,8 +64,8 @@ unfolding table_puts image.of_table entries_of_table
 puts_kept name es = places_kept (table_of (hash_of name)) head_size es
 
 table_most : (img : List ℕ) (t : ℕ) (all es : List Entry) → All (Bounded img all) es
-    → total_of_lem img (filter (name_in_table t) es) ≤ length (filter (name_in_table t) es) * length (entries_of_table t all)
-unfolding total_of_lem filter
+    → total_of img (filter (name_in_table t) es) ≤ length (filter (name_in_table t) es) * length (entries_of_table t all)
+unfolding total_of filter
 table_most img t all [] b = omega arith
 table_most img t all (e ∷ es) b = either_bounded (eqb (table_of (hash_of e.name)) t) refl (table_most img t all es b.1)
   where
@@ -73,13 +73,13 @@ table_most img t all (e ∷ es) b = either_bounded (eqb (table_of (hash_of e.nam
     rest = filter (name_in_table t) es
 
     either_bounded : (q : Bool) → eqb (table_of (hash_of e.name)) t ≡ q
-        → total_of_lem img (filter (name_in_table t) es) ≤ length (filter (name_in_table t) es) * length (entries_of_table t all)
-        → total_of_lem img (cond q (e ∷ filter (name_in_table t) es) (filter (name_in_table t) es))
+        → total_of img (filter (name_in_table t) es) ≤ length (filter (name_in_table t) es) * length (entries_of_table t all)
+        → total_of img (cond q (e ∷ filter (name_in_table t) es) (filter (name_in_table t) es))
         ≤ length (cond q (e ∷ filter (name_in_table t) es) (filter (name_in_table t) es)) * length (entries_of_table t all)
     either_bounded true q h =
         let same : table_of (hash_of e.name) ≡ t = eqb-true _ _ q in
         let puts : table_puts e.name all ≡ length (entries_of_table t all) = puts_kept e.name all ∙ ap (λ (k : ℕ). length (entries_of_table k all)) same in
-        one (search_length img e) (total_of_lem img (filter (name_in_table t) es)) (length (filter (name_in_table t) es)) (length (entries_of_table t all))
+        one (search_length img e) (total_of img (filter (name_in_table t) es)) (length (filter (name_in_table t) es)) (length (entries_of_table t all))
         (omega (arith, b.0.1, puts)) h
       where
         one : (a s l n : ℕ) → a ≤ n → s ≤ l * n → a + s ≤ suc l * n

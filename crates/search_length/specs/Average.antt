@@ -2,7 +2,7 @@
 use Rattle.std.specs.Prelude.{ℕ, ◌/◌, ◌%◌, ◌≡◌, Bool, cond, not, List, length, replicate, eqb}
 use Rattle.jhash.specs.Outcome.{Outcome, value, refusal}
 use Rattle.canonical.specs.Canonical.{canonical, puts_in}
-use Rattle.search_length.specs.SearchLengths.{total_of_lem, lengths_from}
+use Rattle.search_length.specs.SearchLengths.{total_of, lengths_from}
 use Rattle.search_length.specs.declared.AverageLength.{AverageLength}
 use Rattle.search_length.specs.declared.Averaged.{Averaged}
 use Rattle.search_length.specs.declared.Averaged.TheVariants as averaged
@@ -13,7 +13,7 @@ abbrev pub entry_count : List ℕ → ℕ
 entry_count img = length (puts_in img)
 
 unfoldable pub total : List ℕ → ℕ
-total img = total_of_lem img (puts_in img)
+total img = total_of img (puts_in img)
 
 -- "an image that (ix) says no to gives 17, then one without entries gives 18"
 abbrev pub first_refusal : Bool → ℕ → ℕ

@@ -13,9 +13,9 @@ abbrev pub search_length : List ℕ → Entry → ℕ
 search_length img e = reads (lookup img e.name)
 
 -- the total of these entries: each entry counts, so a repeated name counts each time
-unfoldable pub total_of_lem : List ℕ → List Entry → ℕ
-total_of_lem img [] = 0
-total_of_lem img (e ∷ es) = search_length img e + total_of_lem img es
+unfoldable pub total_of : List ℕ → List Entry → ℕ
+total_of img [] = 0
+total_of img (e ∷ es) = search_length img e + total_of img es
 
 -- the histogram has 16 counts: for the lengths 1, 2, .. 15, and for 16 and more. The place of a length among them:
 abbrev pub bin_of : ℕ → ℕ

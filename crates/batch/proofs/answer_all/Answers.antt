@@ -1,9 +1,7 @@
 -- `batch::answer_all` meets its contract. Assumes nothing.
 use Prim.Native.Nat.{ℕ}
 use native.Mathlib.Omega.{arith}
-use mathlib.Core.List.{List}
 use lib.ListN.{length, length-replicate}
-use borrow.Author.Rules.{rules}
 use Rattle.image.proofs.NameEnds.{length_names}
 use Rattle.batch.specs.RoundNames.{names}
 use Rattle.batch.specs.Steps.Duplicates.{HashedNames}
@@ -26,13 +24,14 @@ equal_names c =
     let d = c.deduplicate-m in
     record {
       few = c.requires.few;
-      inside = omega (arith, d.kept, length-replicate {A = ℕ} 512 0, c.requires.few);
+      inside = omega (arith, d.auto, length-replicate {A = ℕ} 512 0, c.requires.few);
       places = omega (arith, c.find_all.auto, c.requires.places);
       earlier = λ i h. (d.ensures.equal i h).below;
     }
 
 -- the unique names have their answers
-answered : (c : After-find_all) → UniqueAnswered c.args.image.now (names c.args.bytes.now c.args.ends.now) (c.deduplicate-m.new.equals) c.find_all.new.answers (length c.args.ends.now)
+answered : (c : After-find_all) → UniqueAnswered c.args.image.now (names c.args.bytes.now c.args.ends.now) (c.deduplicate-m.new.equals)
+    c.find_all.new.answers (length c.args.ends.now)
 answered c =
     unique_answered (length_names c.args.bytes.now c.args.ends.now) c.deduplicate-m.ensures c.find_all.ensures.stored
 
@@ -70,7 +69,8 @@ returns-then-m-n c =
     record {
       count = c.sum_buckets-sum.ensures image (names c.args.bytes.now c.args.ends.now) (answered (goal.at.returns-then-m-n c).After-find_all);
       stored =
-          all_words image (names c.args.bytes.now c.args.ends.now) _ (answered (goal.at.returns-then-m-n c).After-find_all).size (omega (arith, copied.auto, c.find_all.kept, c.requires.places))
+          all_words image (names c.args.bytes.now c.args.ends.now) _ (answered (goal.at.returns-then-m-n c).After-find_all).size
+          (omega (arith, copied.auto, c.find_all.auto, c.requires.places))
           (copied.ensures image (names c.args.bytes.now c.args.ends.now) (answered (goal.at.returns-then-m-n c).After-find_all));
     }
 
@@ -80,6 +80,7 @@ returns-else-m-n c =
     record {
       count = c.sum_buckets-sum.ensures image (names c.args.bytes.now c.args.ends.now) (answered (goal.at.returns-else-m-n c).After-find_all);
       stored =
-          all_words image (names c.args.bytes.now c.args.ends.now) _ (answered (goal.at.returns-else-m-n c).After-find_all).size (omega (arith, c.find_all.kept, c.requires.places))
+          all_words image (names c.args.bytes.now c.args.ends.now) _ (answered (goal.at.returns-else-m-n c).After-find_all).size
+          (omega (arith, c.find_all.auto, c.requires.places))
           (λ i h. (answered (goal.at.returns-else-m-n c).After-find_all).have_answers i h (c.deduplicate-m.ensures.all_unique c.if-m-n.false i h));
     }

@@ -30,18 +30,23 @@ refused : (f : After-size_or_zero-size) → (Checked f.args.image.now f.args.n �
 refused f d = refuse f.args.image.now f.args.n (bytes f) f.requires d
 
 pub returns-then-size-image : goal.returns-then-size-image
-returns-then-size-image c = refused (goal.at.returns-then-size-image c).After-size_or_zero-size (λ k. c.if-size-image.true (c.size_or_zero-size.ensures.is ∙ k.size))
+returns-then-size-image c = refused (goal.at.returns-then-size-image c).After-size_or_zero-size
+    (λ k. c.if-size-image.true (c.size_or_zero-size.ensures.is ∙ k.size))
 
 pub returns-then-word_or_zero-gt1 : goal.returns-then-word_or_zero-gt1
-returns-then-word_or_zero-gt1 c = refused (goal.at.returns-then-word_or_zero-gt1 c).After-size_or_zero-size (λ k. omega (arith, k.flag, c.word_or_zero.ensures, c.if-word_or_zero-gt1.true))
+returns-then-word_or_zero-gt1 c = refused (goal.at.returns-then-word_or_zero-gt1 c).After-size_or_zero-size
+    (λ k. omega (arith, k.flag, c.word_or_zero.ensures, c.if-word_or_zero-gt1.true))
 
 pub returns-then-size-behind : goal.returns-then-size-behind
 returns-then-size-behind c =
-    refused (goal.at.returns-then-size-behind c).After-size_or_zero-size (λ k. omega (arith, k.room, c.size_or_zero-back.ensures.is, c.if-size-image.false, c.if-size-behind.true))
+    refused (goal.at.returns-then-size-behind c).After-size_or_zero-size
+    (λ k. omega (arith, k.room, c.size_or_zero-back.ensures.is, c.if-size-image.false, c.if-size-behind.true))
 
 pub returns-then-size_or_zero-offset_or_zero : goal.returns-then-size_or_zero-offset_or_zero
 returns-then-size_or_zero-offset_or_zero c =
-    refused (goal.at.returns-then-size_or_zero-offset_or_zero c).After-size_or_zero-size (λ k. c.if-size_or_zero-offset_or_zero.true (c.size_or_zero.ensures.is ∙ k.back_offset_lem ∙ sym (wanted (goal.at.returns-then-size_or_zero-offset_or_zero c).After-offset_or_zero)))
+    refused (goal.at.returns-then-size_or_zero-offset_or_zero c).After-size_or_zero-size
+    (λ k. c.if-size_or_zero-offset_or_zero.true (c.size_or_zero.ensures.is ∙ k.back_offset_lem
+    ∙ sym (wanted (goal.at.returns-then-size_or_zero-offset_or_zero c).After-offset_or_zero)))
 
 pub check_body-requires : goal.check_body-requires
 check_body-requires c =
@@ -55,9 +60,11 @@ pub returns : goal.returns
 returns c =
     let n = c.args.n in
     let back = c.size_or_zero-back.result in
-    decided c.args.image.now n (bytes (goal.at.returns c).After-size_or_zero-size) c.requires (c.size_or_zero-size.result - (16 * n + 4 * back)) back (sym c.size_or_zero-size.ensures.is ∙ c.if-size-image.false)
+    decided c.args.image.now n (bytes (goal.at.returns c).After-size_or_zero-size) c.requires (c.size_or_zero-size.result - (16 * n + 4 * back))
+    back (sym c.size_or_zero-size.ensures.is ∙ c.if-size-image.false)
     (omega (arith, c.word_or_zero.ensures, c.if-word_or_zero-gt1.false)) c.size_or_zero-back.ensures.is
     (omega (arith, c.if-size-behind.false))
-    (ap (λ (l : ℕ). l - (16 * n + 4 * back)) c.if-size-image.false) (sym c.size_or_zero.ensures.is ∙ c.if-size_or_zero-offset_or_zero.false ∙ c.offset_or_zero.ensures)
+    (ap (λ (l : ℕ). l - (16 * n + 4 * back)) c.if-size-image.false)
+    (sym c.size_or_zero.ensures.is ∙ c.if-size_or_zero-offset_or_zero.false ∙ c.offset_or_zero.ensures)
     c.check_body.result
     c.check_body.ensures

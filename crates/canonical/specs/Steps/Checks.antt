@@ -1,6 +1,7 @@
 -- The checks by which the code decides whether an image is canonical, in place and without a second buffer. All of them
 -- hold exactly when it is.
-use Rattle.std.specs.Prelude.{ℕ, ◌+◌, ◌*◌, ◌-◌, ◌/◌, ◌≤◌, ◌<◌, ◌≡◌, Bool, true, cond, not, ◌&&◌, ◌||◌, List, [], ◌∷◌, length, get_or, take, drop, replicate, eqb, ltb}
+use Rattle.std.specs.Prelude.{ℕ, ◌+◌, ◌*◌, ◌-◌, ◌/◌, ◌≤◌, ◌<◌, ◌≡◌, Bool, true, cond, not, ◌&&◌, ◌||◌, List, [], ◌∷◌}
+use Rattle.std.specs.Prelude.{length, get_or, take, drop, replicate, eqb, ltb}
 use Rattle.jhash.specs.NameHash.{hash_of}
 use Rattle.jhash.specs.Outcome.{value}
 use Rattle.image.specs.Bytes.{word, all}

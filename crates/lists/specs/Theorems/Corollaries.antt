@@ -5,7 +5,7 @@ use Rattle.image.specs.declared.Mode.TheVariants.{Twoway}
 use Rattle.image.specs.Image.{Entry, head_size, image}
 use Rattle.reader.specs.Lookup.{lookup}
 use Rattle.consistency.specs.Home.{home}
-use Rattle.lookup_laws.specs.Answer.{found_id, found_offset, name_given, of_name, of_id, first_id, first_at_lem}
+use Rattle.lookup_laws.specs.Answer.{found_id, found_offset, name_given, of_name, of_id, first_id, first_at}
 use Rattle.writer.specs.declared.Repeats.{Repeats}
 use Rattle.writer.specs.Close.{after_close}
 use Rattle.lists.specs.Calls.{Call, puts}
@@ -27,7 +27,7 @@ pub record Corollaries (repeats : Repeats) (buffer : List ℕ) (cs : List Call) 
   -- entries before it; nothing without one
   pub name_stands : (name : List ℕ)
       → found_offset (lookup (image_of Twoway repeats buffer cs) name)
-      ≡ first_at_lem name head_size (accepted_puts Twoway repeats buffer cs)
+      ≡ first_at name head_size (accepted_puts Twoway repeats buffer cs)
   -- 02 (vi): every id that has a name is home
   pub named_home : (id : ℕ) (name : List ℕ) → name_given (image_of Twoway repeats buffer cs) id ≡ some name
       → home (image_of Twoway repeats buffer cs) id ≡ true

@@ -25,7 +25,8 @@ entry_here c =
 
 pub returns-then-stored-ne0 : goal.returns-then-stored-ne0
 returns-then-stored-ne0 c =
-    turn_ends c.args.seed c.loop-i.i c.put-stored.result.refusal (state_with c.loop-i.after c.loop-i.counts c.loop-i.buf) _ _ (entry_here (goal.at.returns-then-stored-ne0 c).After-state_name-name) c.put-stored.ensures
+    turn_ends c.args.seed c.loop-i.i c.put-stored.result.refusal (state_with c.loop-i.after c.loop-i.counts c.loop-i.buf) _ _
+    (entry_here (goal.at.returns-then-stored-ne0 c).After-state_name-name) (c.put-stored.ensures.answer, c.put-stored.ensures.leaves)
     c.loop-i-test.true c.if-stored-ne0.true
     ∙ c.loop-i.invariant.whole
 
@@ -43,7 +44,8 @@ loop-i-preserved c =
       state_is =
           c.stepped-next.ensures ∙ ap (λ (x : ℕ). next_state x) c.loop-i.invariant.state_is ∙ ap (state_after c.args.seed) (sym (add-one c.loop-i.i));
       whole =
-          turn_goes_on c.args.seed c.loop-i.i c.put-stored.result.refusal (state_with c.loop-i.after c.loop-i.counts c.loop-i.buf) _ _ (entry_here (goal.at.loop-i-preserved c).After-state_name-name) c.put-stored.ensures
+          turn_goes_on c.args.seed c.loop-i.i c.put-stored.result.refusal (state_with c.loop-i.after c.loop-i.counts c.loop-i.buf) _ _
+          (entry_here (goal.at.loop-i-preserved c).After-state_name-name) (c.put-stored.ensures.answer, c.put-stored.ensures.leaves)
           c.loop-i-test.true c.if-stored-ne0.false
           ∙ c.loop-i.invariant.whole;
       buf_length = search rules;

@@ -1,6 +1,7 @@
 -- What is proved of the load (`rebuilt` in proofs/Theorem): 02 (xiii), for all seeds and buffers. That the states of
 -- a seed do not repeat is not claimed.
-use Rattle.std.specs.Prelude.{ℕ, zero, suc, ◌+◌, ◌*◌, ◌-◌, ◌/◌, ◌^◌, ◌≤◌, ◌<◌, min, ◌≡◌, cond, List, [], ◌∷◌, ◌++◌, length, take, drop, ltb}
+use Rattle.std.specs.Prelude.{ℕ, zero, suc, ◌+◌, ◌*◌, ◌-◌, ◌/◌, ◌^◌, ◌≤◌, ◌<◌, min, ◌≡◌, cond, List, [], ◌∷◌, ◌++◌}
+use Rattle.std.specs.Prelude.{length, take, drop, ltb}
 use Rattle.jhash.specs.Outcome.{value, refusal}
 use Rattle.jhash.specs.Refusals as refused
 use Rattle.image.specs.declared.Mode.TheVariants.{Twoway}

@@ -46,7 +46,12 @@ pub returns-then-not-finds_id : goal.returns-then-not-finds_id
 returns-then-not-finds_id c = other_id (step (goal.at.returns-then-not-finds_id c).After-finds_id) c.if-not-finds_id.true
 
 pub overflow_cast-result-then-not-gives_name : goal.overflow_cast-result-then-not-gives_name
-overflow_cast-result-then-not-gives_name c = omega (arith, (lies_inside (goal.at.overflow_cast-result-then-not-gives_name c).After-finds_id).inside, c.loop-left.invariant.short)
+overflow_cast-result-then-not-gives_name c = omega (
+  arith,
+  (lies_inside
+      (goal.at.overflow_cast-result-then-not-gives_name c).After-finds_id).inside,
+  c.loop-left.invariant.short,
+)
 
 pub returns-then-not-gives_name : goal.returns-then-not-gives_name
 returns-then-not-gives_name c =

@@ -12,7 +12,7 @@ use Rattle.reader.specs.Cases.{naming_of}
 use Rattle.reader.proofs.Namings.{named}
 use Rattle.one_to_one.specs.OneToOne.{is_name, asked}
 use borrow.Author.Rules.{rules}
-use Rattle.one_to_one.proofs.gives_name.Goals.{In-Place-2}
+use Rattle.one_to_one.proofs.gives_name.Goals.{In-Place}
 use Rattle.one_to_one.proofs.gives_name.Goals as goal
 
 pub returns-then-not-twoway : goal.returns-then-not-twoway
@@ -21,21 +21,21 @@ returns-then-not-twoway c =
     ap (λ (t : Bool). asked (cond t Twoway Oneway) (is_name (name_given a.image.now a.id) a.name.now))
     (sym c.if-not-twoway.true)
 
-inside : (c : In-Place-2) → c.in-Place.start + c.in-Place.len ≤ length c.args.image.now
+inside : (c : In-Place) → c.in-Place.start + c.in-Place.len ≤ length c.args.image.now
 inside c =
     let a = c.args in
     (named a.image.now a.id c.in-Place.start c.in-Place.len (sym c.to_str.ensures ∙ ap naming_of c.in-Place.is)).inside
 
 pub overflow_add-start : goal.overflow_add-start
-overflow_add-start c = omega (arith, inside (goal.at.overflow_add-start c).In-Place-2)
+overflow_add-start c = omega (arith, inside c)
 
 pub slice_bounds-same-end : goal.slice_bounds-same-end
-slice_bounds-same-end c = omega (arith, inside (goal.at.slice_bounds-same-end c).In-Place-2)
+slice_bounds-same-end c = omega (arith, inside c)
 
 pub returns-in-Place : goal.returns-in-Place
 returns-in-Place c =
     let a = c.args in
-    let k : c.in-Place.start + c.in-Place.len - c.in-Place.start ≡ n = omega arith in
+    let k : c.in-Place.start + c.in-Place.len - c.in-Place.start ≡ c.in-Place.len = omega arith in
     c.same.ensures
     ∙ ap (λ (l : ℕ). same (take l (drop c.in-Place.start a.image.now)) a.name.now) k
     ∙ ap₂ (λ (x : Naming) (t : Bool). asked (cond t Twoway Oneway) (is_name (bytes_at a.image.now x) a.name.now))

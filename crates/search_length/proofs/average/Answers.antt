@@ -32,7 +32,11 @@ pub nonzero_rem-result : goal.nonzero_rem-result
 nonzero_rem-result c = omega (arith, some (goal.at.nonzero_rem-result c).Else-refusal-ne0)
 
 pub count_lengths-sum-requires : goal.count_lengths-sum-requires
-count_lengths-sum-requires c = record { own = accepted (asked (goal.at.count_lengths-sum-requires c).After-first_refusal-refusal) c.if-refusal-ne0.false; zeros = refl }
+count_lengths-sum-requires c = record {
+  own = accepted (asked (goal.at.count_lengths-sum-requires c).After-first_refusal-refusal)
+      c.if-refusal-ne0.false;
+  zeros = refl;
+}
 
 pub returns : goal.returns
 returns c = averaged (asked (goal.at.returns c).After-first_refusal-refusal) c.if-refusal-ne0.false c.count_lengths-sum.ensures

@@ -16,7 +16,10 @@ pub returns-then-refusal-ne0 : goal.returns-then-refusal-ne0
 returns-then-refusal-ne0 c = refused_lengths (asked (goal.at.returns-then-refusal-ne0 c).After-first_refusal-refusal) c.args.counts.now c.if-refusal-ne0.true
 
 pub count_lengths-requires : goal.count_lengths-requires
-count_lengths-requires c = record { own = accepted (asked (goal.at.count_lengths-requires c).After-first_refusal-refusal) c.if-refusal-ne0.false; zeros = refl }
+count_lengths-requires c = record {
+  own = accepted (asked (goal.at.count_lengths-requires c).After-first_refusal-refusal) c.if-refusal-ne0.false;
+  zeros = refl;
+}
 
 pub returns : goal.returns
 returns c =

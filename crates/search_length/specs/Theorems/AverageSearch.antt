@@ -8,7 +8,7 @@ use Rattle.image.specs.Tables.{table_of}
 use Rattle.jhash.specs.Word.{AllBytes}
 use Rattle.lookup_laws.specs.Answer.{table_puts}
 use Rattle.canonical.specs.Canonical.{canonical, puts_in}
-use Rattle.search_length.specs.SearchLengths.{search_length, total_of_lem, in_bin}
+use Rattle.search_length.specs.SearchLengths.{search_length, total_of, in_bin}
 use Rattle.search_length.specs.Average.{entry_count, total, average_refusal, averaging, lengths_of, after_lengths}
 use Rattle.search_length.specs.declared.AverageLength.{AverageLength}
 
@@ -35,7 +35,7 @@ pub record Searched (img : List ℕ) : Type 0 where
   -- and at most as many as demand 3 says of a found name: in all, and table by table
   pub at_most : total img ≤ bound_of (puts_in img) (puts_in img)
   pub by_table : (t : ℕ)
-      → total_of_lem img (entries_of_table t (puts_in img))
+      → total_of img (entries_of_table t (puts_in img))
       ≤ length (entries_of_table t (puts_in img)) * length (entries_of_table t (puts_in img))
   -- the histogram: its sum is the entries, and each count is the number of entries that have that length
   pub summed : sum (lengths_of img) ≡ entry_count img
@@ -53,7 +53,7 @@ pub record AverageSearch : Type 0 where
   pub number : (img : List ℕ) (m : AverageLength) → averaging img ≡ value m → m.entries ≡ entry_count img
   -- each entry adds its own length, whatever stands before and behind it: a repeated name counts each time
   pub each_time : (img : List ℕ) (before : List Entry) (e : Entry) (behind : List Entry)
-      → total_of_lem img (before ++ e ∷ behind) ≡ search_length img e + total_of_lem img (before ++ behind)
+      → total_of img (before ++ e ∷ behind) ≡ search_length img e + total_of img (before ++ behind)
   pub searched : (img : List ℕ) → AllBytes img → canonical img ≡ true → Searched img
   -- the list of the histogram: where refused, as it was
   pub filled : (img counts : List ℕ) → average_refusal img ≡ 0 → after_lengths img counts ≡ lengths_of img

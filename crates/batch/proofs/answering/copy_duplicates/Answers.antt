@@ -1,14 +1,10 @@
 -- `batch::answering::copy_duplicates` meets its contract. The loop's invariant: the places passed have their answers, and so have those of unique names.
 -- Assumes nothing.
-use Prim.Native.Nat.{ℕ, ◌+◌, ◌-◌, ◌≤◌}
+use Prim.Native.Nat.{ℕ, ◌+◌}
 use native.Mathlib.Omega.{arith}
-use mathlib.Core.Path.{◌≡◌, refl, sym, subst, ◌∙◌}
+use mathlib.Core.Path.{refl, sym, subst, ◌∙◌}
 use mathlib.Core.List.{List}
-use lib.ListN.{length}
-use borrow.Author.Rules.{rules}
-use Rattle.batch.specs.Steps.Answers.{UniqueAnswered}
 use Rattle.batch.proofs.AnswerPlaces.{Copied, copied_step}
-use Rattle.batch.proofs.answering.copy_duplicates.Invariants.{Inv}
 use Rattle.batch.proofs.answering.copy_duplicates.Goals as goal
 
 pub loop-i-init : goal.loop-i-init
@@ -31,7 +27,7 @@ loop-i-preserved c =
     let more = c.loop-i-test.true in
     record {
       inside = omega (arith, more);
-      long = c.copy_answer.auto.0 ∙ c.loop-i.invariant.long;
+      long = c.copy_answer.auto.answers ∙ c.loop-i.invariant.long;
       copied = λ image xs u.
           subst (λ (r : List ℕ). Copied image xs a.equals.now r a.n (c.loop-i.i + 1)) (sym c.copy_answer.ensures)
           (copied_step u c.source-from.ensures more (omega (arith, c.requires.places, c.loop-i.invariant.long)) (c.loop-i.invariant.copied image xs u));

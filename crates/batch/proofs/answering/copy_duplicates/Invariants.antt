@@ -1,13 +1,11 @@
 -- `batch::answering::copy_duplicates` meets its contract. The loop's invariant: the places passed have their answers, and so have those of unique names.
 -- Assumes nothing.
-use Prim.Native.Nat.{ℕ, ◌+◌, ◌-◌, ◌≤◌}
-use native.Mathlib.Omega.{arith}
-use mathlib.Core.Path.{◌≡◌, refl, sym, subst, ◌∙◌}
+use Prim.Native.Nat.{ℕ, ◌-◌, ◌≤◌}
+use mathlib.Core.Path.{◌≡◌}
 use mathlib.Core.List.{List}
 use lib.ListN.{length}
-use borrow.Author.Rules.{rules}
 use Rattle.batch.specs.Steps.Answers.{UniqueAnswered}
-use Rattle.batch.proofs.AnswerPlaces.{Copied, copied_step}
+use Rattle.batch.proofs.AnswerPlaces.{Copied}
 use Rattle.batch.proofs.answering.copy_duplicates.Given as goal
 
 pub record Inv (equals before answers : List ℕ) (n i : ℕ) : Type 0 where

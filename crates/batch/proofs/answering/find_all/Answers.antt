@@ -1,21 +1,15 @@
 -- `batch::answering::find_all` meets its contract. The loop's invariant: each of the names has its answer, or its search is open after c buckets; the open
 -- ones are listed names and rise, and the places of other names are kept. Assumes nothing.
-use Prim.Native.Nat.{ℕ, ◌-◌, ◌≤◌, ◌<◌}
+use Prim.Native.Nat.{ℕ, ◌-◌, ◌<◌}
 use native.Mathlib.Omega.{arith}
-use mathlib.Core.Path.{◌≡◌, refl}
-use mathlib.Core.Logic.{◌⊎◌, inr}
-use mathlib.Core.List.{List}
+use mathlib.Core.Path.{refl}
+use mathlib.Core.Logic.{inr}
 use lib.ListN.{length, get_or, length-replicate}
-use borrow.Author.Rules.{rules}
-use Rattle.batch.specs.RoundNames.{names}
-use Rattle.batch.specs.Steps.Duplicates.{Listed, RisingTo}
-use Rattle.batch.specs.Steps.Probing.{SearchOpen}
-use Rattle.batch.specs.Steps.Answers.{HasAnswer}
+use Rattle.batch.specs.Steps.Duplicates.{Listed}
 use Rattle.batch.proofs.IndexLists.{listed_has}
-use Rattle.batch.proofs.AnswerPlaces.{Kept, kept_start, kept_step, listed_part}
+use Rattle.batch.proofs.AnswerPlaces.{kept_start, kept_step, listed_part}
 use Rattle.batch.proofs.Probes.{open_first}
 use Rattle.batch.proofs.Passes.{next_has_answer, last_has_answer}
-use Rattle.batch.proofs.answering.find_all.Invariants.{Inv}
 use Rattle.batch.proofs.answering.find_all.Goals.{After-pass-open}
 use Rattle.batch.proofs.answering.find_all.Goals as goal
 
@@ -68,7 +62,7 @@ pub overflow_sub-q : goal.overflow_sub-q
 overflow_sub-q c = omega (arith, c.pass-open.ensures.count)
 
 pub slice_bounds-find_decided-end-in-loop-c : goal.slice_bounds-find_decided-end-in-loop-c
-slice_bounds-find_decided-end-in-loop-c c = omega (arith, c.pass-open.kept, c.loop-c.invariant.offsets_long)
+slice_bounds-find_decided-end-in-loop-c c = omega (arith, c.pass-open.auto, c.loop-c.invariant.offsets_long)
 
 -- the decided searches are of listed names
 decided_listed : (c : After-pass-open) → let a = c.args in
@@ -82,11 +76,11 @@ find_decided-requires c =
     let v = c.loop-c.invariant in
     record {
       listed =
-          listed_part c.requires v.answers_long (omega (arith, v.count)) (omega (arith, c.pass-open.kept, v.done_long, v.count, c.requires.few))
+          listed_part c.requires v.answers_long (omega (arith, v.count)) (omega (arith, c.pass-open.auto, v.done_long, v.count, c.requires.few))
           c.pass-open.ensures.done_rising (decided_listed (goal.at.find_decided-requires c).After-pass-open);
       short = c.pass_count-passes.ensures.short (omega (arith, c.loop-c-test.true));
       small = omega (arith, c.loop-c-test.true, c.pass_count-passes.ensures.few);
-      capacity = omega (arith, c.pass-open.kept, v.offsets_long, v.count, c.requires.few);
+      capacity = omega (arith, c.pass-open.auto, v.offsets_long, v.count, c.requires.few);
       decided = λ x h. (c.pass-open.ensures.decided x h).decided;
     }
 
@@ -101,10 +95,10 @@ loop-c-preserved c =
     record {
       passed = omega (arith, c.loop-c-test.true);
       count = omega (arith, parted.count, v.count);
-      live_long = omega (arith, c.pass-open.kept, v.live_long);
+      live_long = omega (arith, c.pass-open.auto, v.live_long);
       answers_long = omega (arith, found.auto, v.answers_long);
-      done_long = omega (arith, c.pass-open.kept, v.done_long);
-      offsets_long = omega (arith, c.pass-open.kept, v.offsets_long);
+      done_long = omega (arith, c.pass-open.auto, v.done_long);
+      offsets_long = omega (arith, c.pass-open.auto, v.offsets_long);
       rising = parted.live_rising;
       listed = λ z h. listed_has (Listed c.args.live.now c.args.m) v.listed (parted.is_open z h).listed;
       is_open = λ z h. (parted.is_open z h).is_open;

@@ -1,20 +1,15 @@
 -- `batch::answering::find_all` meets its contract. The loop's invariant: each of the names has its answer, or its search is open after c buckets; the open
 -- ones are listed names and rise, and the places of other names are kept. Assumes nothing.
 use Prim.Native.Nat.{ℕ, ◌-◌, ◌≤◌, ◌<◌}
-use native.Mathlib.Omega.{arith}
-use mathlib.Core.Path.{◌≡◌, refl}
-use mathlib.Core.Logic.{◌⊎◌, inr}
+use mathlib.Core.Path.{◌≡◌}
+use mathlib.Core.Logic.{◌⊎◌}
 use mathlib.Core.List.{List}
-use lib.ListN.{length, get_or, length-replicate}
-use borrow.Author.Rules.{rules}
+use lib.ListN.{length, get_or}
 use Rattle.batch.specs.RoundNames.{names}
 use Rattle.batch.specs.Steps.Duplicates.{Listed, RisingTo}
 use Rattle.batch.specs.Steps.Probing.{SearchOpen}
 use Rattle.batch.specs.Steps.Answers.{HasAnswer}
-use Rattle.batch.proofs.IndexLists.{listed_has}
-use Rattle.batch.proofs.AnswerPlaces.{Kept, kept_start, kept_step, listed_part}
-use Rattle.batch.proofs.Probes.{open_first}
-use Rattle.batch.proofs.Passes.{next_has_answer, last_has_answer}
+use Rattle.batch.proofs.AnswerPlaces.{Kept}
 use Rattle.batch.proofs.answering.find_all.Given as goal
 
 pub record Inv (image bytes ends hashes first before live answers done offsets : List ℕ) (m passes q c : ℕ) : Type 0 where

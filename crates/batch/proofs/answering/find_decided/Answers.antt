@@ -1,11 +1,10 @@
 -- `batch::answering::find_decided` meets its contract. The loop's invariant: the names passed have their answers. Assumes nothing.
-use Prim.Native.Nat.{◌-◌, ◌<◌}
+use Prim.Native.Nat.{◌<◌}
 use native.Mathlib.Omega.{arith}
 use mathlib.Core.Path.{refl, ap}
 use lib.ListN.{length, get_or}
-use borrow.Author.Rules.{rules}
 use Rattle.batch.proofs.Lookups.{name_short}
-use Rattle.batch.proofs.AnswerPlaces.{Finding, finding_start, finding_step, finding_end}
+use Rattle.batch.proofs.AnswerPlaces.{finding_start, finding_step, finding_end}
 use Rattle.batch.proofs.answering.find_decided.Goals.{In-loop-x}
 use Rattle.batch.proofs.answering.find_decided.Goals as goal
 
@@ -34,7 +33,12 @@ put_decided-requires c =
     let name = c.nth_name.ensures in
     let i = get_or c.args.list.now c.loop-x.x 0 in
     record {
-      short = omega (arith, ap length name, name_short c.args.bytes.now c.args.ends.now i (below (goal.at.put_decided-requires c).In-loop-x) c.requires.short);
+      short = omega (
+        arith,
+        ap length name,
+        name_short c.args.bytes.now c.args.ends.now i (below (goal.at.put_decided-requires c).In-loop-x)
+            c.requires.short,
+      );
       inside = omega (arith, below (goal.at.put_decided-requires c).In-loop-x);
       small = c.requires.small;
       decided = c.requires.decided c.loop-x.x c.loop-x-test.true;

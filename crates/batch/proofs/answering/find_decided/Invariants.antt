@@ -1,11 +1,6 @@
 -- `batch::answering::find_decided` meets its contract. The loop's invariant: the names passed have their answers. Assumes nothing.
-use Prim.Native.Nat.{◌-◌, ◌<◌}
-use native.Mathlib.Omega.{arith}
-use mathlib.Core.Path.{refl, ap}
-use lib.ListN.{length, get_or}
-use borrow.Author.Rules.{rules}
-use Rattle.batch.proofs.Lookups.{name_short}
-use Rattle.batch.proofs.AnswerPlaces.{Finding, finding_start, finding_step, finding_end}
+use Prim.Native.Nat.{◌-◌}
+use Rattle.batch.proofs.AnswerPlaces.{Finding}
 use Rattle.batch.proofs.answering.find_decided.Given as goal
 
 abbrev pub invariant-loop-x : goal.invariant-loop-x

@@ -1,12 +1,11 @@
 -- `batch::answering::find_open` meets its contract. The loop's invariant: the names passed have their answers. Assumes nothing.
-use Prim.Native.Nat.{◌-◌, ◌<◌}
+use Prim.Native.Nat.{◌<◌}
 use native.Mathlib.Omega.{arith}
 use mathlib.Core.Path.{◌∙◌}
 use lib.ListN.{length, get_or}
-use borrow.Author.Rules.{rules}
 use Rattle.reader.specs.Cases.{lookup_of}
 use Rattle.reader.proofs.Searches.{from_whole}
-use Rattle.batch.proofs.AnswerPlaces.{Finding, finding_start, finding_step, finding_end}
+use Rattle.batch.proofs.AnswerPlaces.{finding_start, finding_step, finding_end}
 use Rattle.batch.proofs.answering.find_open.Goals.{In-loop-x}
 use Rattle.batch.proofs.answering.find_open.Goals as goal
 
@@ -32,7 +31,7 @@ bounds-hashes-i c = omega (arith, below (goal.at.bounds-hashes-i c).In-loop-x)
 
 pub search_from-answer-requires : goal.search_from-answer-requires
 search_from-answer-requires c =
-    omega (arith, c.shared_slice_known-in-loop-x-2-1.given (get_or c.args.list.now c.loop-x.x 0), c.requires.small)
+    omega (arith, c.type_inv.hashes (get_or c.args.list.now c.loop-x.x 0), c.requires.small)
 
 pub put_answer-requires : goal.put_answer-requires
 put_answer-requires c = omega (arith, below (goal.at.put_answer-requires c).In-loop-x)

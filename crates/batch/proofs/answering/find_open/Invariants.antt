@@ -1,12 +1,6 @@
 -- `batch::answering::find_open` meets its contract. The loop's invariant: the names passed have their answers. Assumes nothing.
-use Prim.Native.Nat.{◌-◌, ◌<◌}
-use native.Mathlib.Omega.{arith}
-use mathlib.Core.Path.{◌∙◌}
-use lib.ListN.{length, get_or}
-use borrow.Author.Rules.{rules}
-use Rattle.reader.specs.Cases.{lookup_of}
-use Rattle.reader.proofs.Searches.{from_whole}
-use Rattle.batch.proofs.AnswerPlaces.{Finding, finding_start, finding_step, finding_end}
+use Prim.Native.Nat.{◌-◌}
+use Rattle.batch.proofs.AnswerPlaces.{Finding}
 use Rattle.batch.proofs.answering.find_open.Given as goal
 
 abbrev pub invariant-loop-x : goal.invariant-loop-x

@@ -1,6 +1,5 @@
 -- `batch::answering::put_answer` meets its contract. Assumes nothing.
 use mathlib.Core.Path.{sym, ap, ◌∙◌}
-use borrow.Author.Rules.{rules}
 use Rattle.reader.specs.Cases.{lookup_of}
 use Rattle.reader.specs.declared.ToId.{ToId}
 use Rattle.batch.specs.Round.{answer_words}

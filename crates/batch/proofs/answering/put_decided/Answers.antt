@@ -1,7 +1,6 @@
 -- `batch::answering::put_decided` meets its contract. Assumes nothing.
 use native.Mathlib.Omega.{arith}
 use mathlib.Core.Path.{◌≡◌, sym, ap, ◌∙◌}
-use borrow.Author.Rules.{rules}
 use Rattle.reader.specs.Lookup.{Lookup, Probe, probe_entry, decide, ends, hit, lookup_by}
 use Rattle.reader.specs.Steps.Resume.{search_from}
 use Rattle.reader.specs.Cases.{probe_of}
@@ -44,4 +43,5 @@ returns-in-Hit c =
     let a = c.args in
     c.put_words-in-Hit.ensures
     ∙ ap (λ (x : Lookup). put_words a.answers.now a.i (answer_words x))
-    (decided (goal.at.returns-in-Hit c).After-probe_entry (hit (record { id = c.in-Hit.hit.id; offset = c.in-Hit.hit.offset })) (sym (ap probe_of c.in-Hit.is) ∙ c.probe_entry.ensures))
+    (decided (goal.at.returns-in-Hit c).After-probe_entry (hit (record { id = c.in-Hit.hit.id; offset = c.in-Hit.hit.offset }))
+    (sym (ap probe_of c.in-Hit.is) ∙ c.probe_entry.ensures))

@@ -1,7 +1,6 @@
 -- `batch::answering::put_words` meets its contract. Assumes nothing.
 use native.Mathlib.Omega.{arith}
 use lib.ListN.{length-set}
-use borrow.Author.Rules.{rules}
 use Rattle.batch.proofs.answering.put_words.Goals as goal
 
 pub bounds-answers-at-2 : goal.bounds-answers-at-2

@@ -1,27 +1,20 @@
 -- `batch::answering::sum_buckets` meets its contract. The loop's invariant: the sum, with the buckets of the names that are left, is that of all. Assumes
 -- nothing.
-use Prim.Native.Nat.{ℕ, ◌+◌, ◌*◌, ◌-◌, ◌≤◌}
 use native.Mathlib.Omega.{arith}
-use mathlib.Core.Path.{◌≡◌}
-use mathlib.Core.List.{List}
-use borrow.Author.Rules.{rules}
-use Rattle.batch.specs.Round.{round_buckets}
-use Rattle.batch.specs.Steps.Answers.{UniqueAnswered}
-use Rattle.batch.proofs.UniqueSums.{buckets_from, sum_start, sum_step, sum_end}
-use Rattle.batch.proofs.answering.sum_buckets.Invariants.{Inv}
+use Rattle.batch.proofs.UniqueSums.{sum_start, sum_step, sum_end}
 use Rattle.batch.proofs.answering.sum_buckets.Goals as goal
 
 pub loop-i-init : goal.loop-i-init
 loop-i-init c = record { inside = omega arith; small = omega arith; whole = λ image xs u. sum_start image xs }
 
 pub overflow_add-sum : goal.overflow_add-sum
-overflow_add-sum c = omega (arith, c.if_zero.ok)
+overflow_add-sum c = omega (arith, c.if_zero.type_inv)
 
 pub loop-i-preserved : goal.loop-i-preserved
 loop-i-preserved c =
     record {
       inside = omega arith;
-      small = omega (arith, c.if_zero.ok, c.loop-i.invariant.small);
+      small = omega (arith, c.if_zero.type_inv, c.loop-i.invariant.small);
       whole = λ image xs u.
           sum_step u c.loop-i.i c.loop-i.sum c.if_zero.result (omega arith) c.if_zero.ensures.own
           c.if_zero.ensures.none (c.loop-i.invariant.whole image xs u);

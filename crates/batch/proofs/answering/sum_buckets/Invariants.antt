@@ -1,13 +1,11 @@
 -- `batch::answering::sum_buckets` meets its contract. The loop's invariant: the sum, with the buckets of the names that are left, is that of all. Assumes
 -- nothing.
 use Prim.Native.Nat.{ℕ, ◌+◌, ◌*◌, ◌-◌, ◌≤◌}
-use native.Mathlib.Omega.{arith}
 use mathlib.Core.Path.{◌≡◌}
 use mathlib.Core.List.{List}
-use borrow.Author.Rules.{rules}
 use Rattle.batch.specs.Round.{round_buckets}
 use Rattle.batch.specs.Steps.Answers.{UniqueAnswered}
-use Rattle.batch.proofs.UniqueSums.{buckets_from, sum_start, sum_step, sum_end}
+use Rattle.batch.proofs.UniqueSums.{buckets_from}
 use Rattle.batch.proofs.answering.sum_buckets.Given as goal
 
 pub record Inv (equals answers : List ℕ) (n sum i : ℕ) : Type 0 where

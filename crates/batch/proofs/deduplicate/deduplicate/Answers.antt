@@ -1,17 +1,13 @@
 -- `batch::deduplicate::deduplicate` meets its contract. The loop's invariant: the slots hold the first i names, and it is known which of them are
 -- unique. Assumes nothing.
-use Prim.Native.Nat.{ℕ, ◌-◌, ◌≤◌}
+use Prim.Native.Nat.{ℕ}
 use native.Mathlib.Omega.{arith}
 use mathlib.Core.Path.{◌≡◌, refl, sym, subst}
-use mathlib.Core.List.{List}
 use lib.ListN.{length, length-set, replicate, length-replicate, get_or-replicate}
-use borrow.Author.Rules.{rules}
 use Rattle.image.proofs.NameEnds.{length_names}
 use Rattle.batch.specs.RoundNames.{names}
-use Rattle.batch.specs.Steps.Slots.{SlotsHold}
 use Rattle.batch.specs.Steps.Duplicates.{Deduplicated}
 use Rattle.batch.proofs.Duplicates.{slots_empty, deduplicated_none, deduplicated_step}
-use Rattle.batch.proofs.deduplicate.deduplicate.Invariants.{Inv}
 use Rattle.batch.proofs.deduplicate.deduplicate.Goals as goal
 
 pub loop-i-init : goal.loop-i-init

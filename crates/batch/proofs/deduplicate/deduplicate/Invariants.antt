@@ -1,16 +1,12 @@
 -- `batch::deduplicate::deduplicate` meets its contract. The loop's invariant: the slots hold the first i names, and it is known which of them are
 -- unique. Assumes nothing.
 use Prim.Native.Nat.{ℕ, ◌-◌, ◌≤◌}
-use native.Mathlib.Omega.{arith}
-use mathlib.Core.Path.{◌≡◌, refl, sym, subst}
+use mathlib.Core.Path.{◌≡◌}
 use mathlib.Core.List.{List}
-use lib.ListN.{length, length-set, replicate, length-replicate, get_or-replicate}
-use borrow.Author.Rules.{rules}
-use Rattle.image.proofs.NameEnds.{length_names}
+use lib.ListN.{length}
 use Rattle.batch.specs.RoundNames.{names}
 use Rattle.batch.specs.Steps.Slots.{SlotsHold}
 use Rattle.batch.specs.Steps.Duplicates.{Deduplicated}
-use Rattle.batch.proofs.Duplicates.{slots_empty, deduplicated_none, deduplicated_step}
 use Rattle.batch.proofs.deduplicate.deduplicate.Given as goal
 
 pub record Inv (bytes ends hashes equals₀ unique₀ equals unique slots : List ℕ) (m i : ℕ) : Type 0 where

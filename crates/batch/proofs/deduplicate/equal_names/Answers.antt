@@ -4,7 +4,6 @@ use native.Mathlib.Omega.{arith}
 use mathlib.Core.Path.{sym, ap, ◌∙◌}
 use mathlib.Core.List.{List}
 use lib.ListN.{length}
-use borrow.Author.Rules.{rules}
 use Rattle.image.specs.Bytes.{same}
 use Rattle.image.proofs.Equal.{same_false}
 use Rattle.image.proofs.NameEnds.{length_names}

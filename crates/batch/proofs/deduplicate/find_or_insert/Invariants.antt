@@ -1,16 +1,12 @@
 -- `batch::deduplicate::find_or_insert` meets its contract. The loop's invariant: the slots hold the names before the i-th, and the rest of the
 -- search tells what the whole one tells. Assumes nothing.
-use Prim.Native.Nat.{ℕ, ◌≤◌, ◌<◌}
-use native.Mathlib.Omega.{arith}
-use mathlib.Core.Path.{sym, subst, ◌∙◌}
+use Prim.Native.Nat.{ℕ}
 use mathlib.Core.List.{List}
-use lib.ListN.{length, get_or, length-set}
-use borrow.Author.Rules.{rules}
-use Rattle.image.proofs.NameEnds.{length_names}
+use lib.ListN.{get_or}
 use Rattle.batch.specs.RoundNames.{names}
 use Rattle.batch.specs.Steps.Slots.{round_slot, SlotsHold}
-use Rattle.lookup_laws.proofs.SlotSearch.{Remaining, remaining_start, remaining_step, remaining_end, first_empty_lem, none_matches}
-use Rattle.batch.proofs.Duplicates.{equal_to, slot_below, some_empty, found_equal, inserted_here}
+use Rattle.lookup_laws.proofs.SlotSearch.{Remaining}
+use Rattle.batch.proofs.Duplicates.{equal_to}
 use Rattle.batch.proofs.deduplicate.find_or_insert.Given as goal
 
 pub record Inv (bytes ends hashes slots : List ℕ) (i k left : ℕ) : Type 0 where

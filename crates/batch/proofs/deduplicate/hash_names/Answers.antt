@@ -1,15 +1,12 @@
 -- `batch::deduplicate::hash_names` meets its contract. The loop's invariant: the first i hashes are stored. Assumes nothing.
-use Prim.Native.Nat.{ℕ, ◌-◌, ◌≤◌, ◌<◌}
+use Prim.Native.Nat.{◌<◌}
 use native.Mathlib.Omega.{arith}
-use mathlib.Core.Path.{◌≡◌, refl, ap, ◌∙◌}
-use mathlib.Core.List.{List}
+use mathlib.Core.Path.{refl, ap, ◌∙◌}
 use lib.ListN.{length, length-set}
-use borrow.Author.Rules.{rules}
 use Rattle.image.proofs.NameEnds.{length_names}
 use Rattle.batch.specs.RoundNames.{names}
 use Rattle.batch.specs.Steps.Duplicates.{hash_or_zero}
-use Rattle.batch.proofs.Duplicates.{HashesTo, hashes_step}
-use Rattle.batch.proofs.deduplicate.hash_names.Invariants.{Inv}
+use Rattle.batch.proofs.Duplicates.{hashes_step}
 use Rattle.batch.proofs.deduplicate.hash_names.Goals as goal
 
 pub loop-i-init : goal.loop-i-init

@@ -1,17 +1,15 @@
 -- `batch::naming::name_all` meets its contract. The loop's invariant: the places passed hold their words. Assumes nothing.
-use Prim.Native.Nat.{ℕ, ◌-◌, ◌≤◌, ◌<◌}
+use Prim.Native.Nat.{ℕ}
 use native.Mathlib.Omega.{arith}
-use mathlib.Core.Path.{◌≡◌, refl, sym, ap, subst, ◌∙◌}
+use mathlib.Core.Path.{refl, sym, ap, subst, ◌∙◌}
 use mathlib.Core.List.{List}
-use lib.ListN.{length, get_or}
-use borrow.Author.Rules.{rules}
+use lib.ListN.{get_or}
 use Rattle.reader.specs.Naming.{Naming, naming}
 use Rattle.reader.proofs.Lengths.{naming_small}
 use Rattle.batch.specs.NameRound.{place_words}
 use Rattle.batch.specs.Steps.Answers.{put_words, Has}
 use Rattle.batch.proofs.AnswerPlaces.{has_after}
 use Rattle.batch.proofs.PlaceWords.{all_places}
-use Rattle.batch.proofs.naming.name_all.Invariants.{Inv}
 use Rattle.batch.proofs.naming.name_all.Goals as goal
 
 pub loop-i-init : goal.loop-i-init
@@ -24,7 +22,7 @@ put_place-requires c =
       short =
           rw c.to_str.ensures
           (naming_small c.args.image.now (get_or c.args.ids.now c.loop-i.i 0)
-          (λ (i : ℕ). omega (arith, c.shared_slice_known-1.given i)));
+          (λ (i : ℕ). omega (arith, c.type_inv.image i)));
     }
 
 pub loop-i-preserved : goal.loop-i-preserved
@@ -34,7 +32,7 @@ loop-i-preserved c =
     let after = c.put_place.ensures ∙ ap (λ (x : Naming). put_words c.loop-i.answers c.loop-i.i (place_words x)) c.to_str.ensures in
     record {
       inside = omega arith;
-      long = c.put_place.auto.0 ∙ c.loop-i.invariant.long;
+      long = c.put_place.auto.answers ∙ c.loop-i.invariant.long;
       stored = λ j h.
           subst (λ (r : List ℕ). Has r j (word j)) (sym after)
           (has_after c.loop-i.answers c.loop-i.i (word c.loop-i.i) (omega (arith, c.requires, c.loop-i.invariant.long)) j (word j)

@@ -1,16 +1,11 @@
 -- `batch::naming::name_all` meets its contract. The loop's invariant: the places passed hold their words. Assumes nothing.
 use Prim.Native.Nat.{ℕ, ◌-◌, ◌≤◌, ◌<◌}
-use native.Mathlib.Omega.{arith}
-use mathlib.Core.Path.{◌≡◌, refl, sym, ap, subst, ◌∙◌}
+use mathlib.Core.Path.{◌≡◌}
 use mathlib.Core.List.{List}
 use lib.ListN.{length, get_or}
-use borrow.Author.Rules.{rules}
-use Rattle.reader.specs.Naming.{Naming, naming}
-use Rattle.reader.proofs.Lengths.{naming_small}
+use Rattle.reader.specs.Naming.{naming}
 use Rattle.batch.specs.NameRound.{place_words}
-use Rattle.batch.specs.Steps.Answers.{put_words, Has}
-use Rattle.batch.proofs.AnswerPlaces.{has_after}
-use Rattle.batch.proofs.PlaceWords.{all_places}
+use Rattle.batch.specs.Steps.Answers.{Has}
 use Rattle.batch.proofs.naming.name_all.Given as goal
 
 pub record Inv (image ids before answers : List ℕ) (i : ℕ) : Type 0 where

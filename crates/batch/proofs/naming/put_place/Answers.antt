@@ -2,7 +2,6 @@
 use Prim.Native.Nat.{◌<◌}
 use native.Mathlib.Omega.{arith}
 use mathlib.Core.Path.{sym, ap, subst, ◌∙◌}
-use borrow.Author.Rules.{rules}
 use Rattle.reader.specs.Cases.{naming_of}
 use Rattle.reader.specs.declared.Named.{Named}
 use Rattle.reader.specs.Naming.{length_in}

@@ -1,14 +1,11 @@
 -- `batch::probing::pass` meets its contract. The loop's invariant: the searches passed are partitioned, and the others stand where they stood. Assumes
 -- nothing.
-use Prim.Native.Nat.{ℕ, ◌+◌, ◌-◌, ◌≤◌, ◌<◌}
+use Prim.Native.Nat.{ℕ, ◌<◌}
 use native.Mathlib.Omega.{arith}
 use mathlib.Core.Path.{◌≡◌, refl, sym, subst}
-use mathlib.Core.List.{List}
 use lib.ListN.{length, get_or, length-set}
-use borrow.Author.Rules.{rules}
-use Rattle.batch.specs.Steps.Probing.{SearchOpen, OpenOrDecided}
+use Rattle.batch.specs.Steps.Probing.{SearchOpen}
 use Rattle.batch.proofs.Passes.{unread_step, open_or_decided_step, open_or_decided_end}
-use Rattle.batch.proofs.probing.pass.Invariants.{Inv}
 use Rattle.batch.proofs.probing.pass.Goals.{At-loop-z, In-loop-z}
 use Rattle.batch.proofs.probing.pass.Goals as goal
 
@@ -17,7 +14,13 @@ own : (c : At-loop-z) → get_or c.loop-z.live c.loop-z.z 0 ≡ get_or c.args.li
 own c = c.loop-z.invariant.unread c.loop-z.z (omega arith)
 
 hashed : (c : In-loop-z) → get_or c.loop-z.live c.loop-z.z 0 < length c.args.hashes.now
-hashed c = omega (arith, (let the-own : get_or c.loop-z.live c.loop-z.z 0 ≡ get_or c.args.live.now c.loop-z.z 0 = c.loop-z.invariant.unread c.loop-z.z (omega arith) in the-own), c.requires.hashed c.loop-z.z c.loop-z-test.true)
+hashed c = omega (
+  arith,
+  (let the-own : get_or c.loop-z.live c.loop-z.z 0
+      ≡ get_or c.args.live.now c.loop-z.z 0 = c.loop-z.invariant.unread c.loop-z.z (omega arith) in the-own),
+  c.requires.hashed c.loop-z.z
+      c.loop-z-test.true,
+)
 
 pub loop-z-init : goal.loop-z-init
 loop-z-init c =
@@ -69,9 +72,11 @@ loop-z-preserved c =
       live_long = simp length-set v.live_long;
       done_long = simp length-set v.done_long;
       offsets_long = simp length-set v.offsets_long;
-      unread = unread_step v.open_or_decided i c.probe_next-b.result.offset c.probe_next-b.result.on (own (goal.at.loop-z-preserved c).At-loop-z) room v.unread;
+      unread = unread_step v.open_or_decided i c.probe_next-b.result.offset c.probe_next-b.result.on (own (goal.at.loop-z-preserved c).At-loop-z)
+          room v.unread;
       open_or_decided =
-          open_or_decided_step v.open_or_decided i c.probe_next-b.result.offset c.probe_next-b.result.on (own (goal.at.loop-z-preserved c).At-loop-z) room c.probe_next-b.ensures
+          open_or_decided_step v.open_or_decided i c.probe_next-b.result.offset c.probe_next-b.result.on
+          (own (goal.at.loop-z-preserved c).At-loop-z) room c.probe_next-b.ensures
           c.requires.rising more
           (omega (arith, v.done_long, c.requires.done_capacity, v.open_or_decided.count))
           (omega (arith, v.offsets_long, c.requires.offsets_capacity, v.open_or_decided.count));

@@ -1,13 +1,10 @@
 -- `batch::probing::pass` meets its contract. The loop's invariant: the searches passed are partitioned, and the others stand where they stood. Assumes
 -- nothing.
-use Prim.Native.Nat.{ℕ, ◌+◌, ◌-◌, ◌≤◌, ◌<◌}
-use native.Mathlib.Omega.{arith}
-use mathlib.Core.Path.{◌≡◌, refl, sym, subst}
+use Prim.Native.Nat.{ℕ, ◌+◌, ◌-◌, ◌≤◌}
+use mathlib.Core.Path.{◌≡◌}
 use mathlib.Core.List.{List}
-use lib.ListN.{length, get_or, length-set}
-use borrow.Author.Rules.{rules}
-use Rattle.batch.specs.Steps.Probing.{SearchOpen, OpenOrDecided}
-use Rattle.batch.proofs.Passes.{unread_step, open_or_decided_step, open_or_decided_end}
+use lib.ListN.{length, get_or}
+use Rattle.batch.specs.Steps.Probing.{OpenOrDecided}
 use Rattle.batch.proofs.probing.pass.Given as goal
 
 pub record Inv (image hashes live₀ done₀ offsets₀ live done offsets : List ℕ) (c q p d z : ℕ) : Type 0 where

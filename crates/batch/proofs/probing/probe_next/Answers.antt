@@ -1,8 +1,5 @@
 -- `batch::probing::probe_next` meets its contract. Assumes nothing.
-use Prim.Native.Nat.{◌+◌, ◌*◌, ◌≤◌}
 use native.Mathlib.Omega.{arith}
-use lib.ListN.{length}
-use borrow.Author.Rules.{rules}
 use Rattle.batch.proofs.Probes.{open_past, probed}
 use Rattle.batch.proofs.probing.probe_next.Goals as goal
 
@@ -21,12 +18,12 @@ returns-then-n-c c =
 pub word-offset-requires : goal.word-offset-requires
 word-offset-requires c =
     let row = c.find_table-table.ensures.table (omega (arith, c.if-n-c.false)) in
-    omega (arith, row.inside, c.bucket_after-k.ensures.inside, c.struct_known-1.given)
+    omega (arith, row.inside, c.bucket_after-k.ensures.inside, c.find_table-table.type_inv)
 
 pub word-requires : goal.word-requires
 word-requires c =
     let row = c.find_table-table.ensures.table (omega (arith, c.if-n-c.false)) in
-    omega (arith, row.inside, c.bucket_after-k.ensures.inside, c.struct_known-1.given)
+    omega (arith, row.inside, c.bucket_after-k.ensures.inside, c.find_table-table.type_inv)
 
 pub returns : goal.returns
 returns c =

@@ -27,8 +27,13 @@ hash_is c =
     let name = c.name_at in
     let n = c.whole_length-n in
     c.hash_or_zero-h.ensures
-    ∙ hash_or_zero_short name.result.now (omega (arith, name.ensures.size, n.ensures.small, (let the-inside : EntryRoom (c.args.image.now) c.loop-left.at c.args.end c.whole_length-n.result = let n = c.whole_length-n in
-    entering_inside c.loop-left.invariant c.requires.area.inside c.loop-left-test.true n.result n.ensures.is c.if-n-eq0.false in the-inside).name.some))
+    ∙ hash_or_zero_short name.result.now (omega (
+      arith,
+      name.ensures.size,
+      n.ensures.small,
+      (let the-inside : EntryRoom (c.args.image.now) c.loop-left.at c.args.end c.whole_length-n.result = let n = c.whole_length-n in
+          entering_inside c.loop-left.invariant c.requires.area.inside c.loop-left-test.true n.result n.ensures.is c.if-n-eq0.false in the-inside).name.some,
+    ))
     ∙ ap hash_of name.ensures.is
 
 read : (c : After-check_entry) → let a = c.args in
@@ -38,12 +43,19 @@ read c =
     record {
       length_is = c.whole_length-n.ensures.is;
       whole = c.if-n-eq0.false;
-      hash_is = (let the-hash_is : c.hash_or_zero-h.result ≡ hash_of (entry_name (c.args.image.now) c.loop-left.at c.whole_length-n.result) = let name = c.name_at in
-    let n = c.whole_length-n in
-    c.hash_or_zero-h.ensures
-    ∙ hash_or_zero_short name.result.now (omega (arith, name.ensures.size, n.ensures.small, (let the-inside : EntryRoom (c.args.image.now) c.loop-left.at c.args.end c.whole_length-n.result = let n = c.whole_length-n in
-    entering_inside c.loop-left.invariant c.requires.area.inside c.loop-left-test.true n.result n.ensures.is c.if-n-eq0.false in the-inside).name.some))
-    ∙ ap hash_of name.ensures.is in the-hash_is);
+      hash_is = (let the-hash_is : c.hash_or_zero-h.result ≡ hash_of (entry_name (c.args.image.now) c.loop-left.at c.whole_length-n.result) = let
+          name = c.name_at in
+          let n = c.whole_length-n in
+          c.hash_or_zero-h.ensures
+          ∙ hash_or_zero_short name.result.now (omega (
+            arith,
+            name.ensures.size,
+            n.ensures.small,
+            (let the-inside : EntryRoom (c.args.image.now) c.loop-left.at c.args.end c.whole_length-n.result = let n = c.whole_length-n in
+                entering_inside c.loop-left.invariant c.requires.area.inside c.loop-left-test.true n.result n.ensures.is c.if-n-eq0.false in
+                the-inside).name.some,
+          ))
+          ∙ ap hash_of name.ensures.is in the-hash_is);
       id_is = c.size_or_zero-id.ensures.is;
       back_word_is = c.word_or_zero-w.ensures;
       ahead_is = c.not_before.ensures;
@@ -65,11 +77,19 @@ name_at-requires c = (inside (goal.at.name_at-requires c).Else-n-eq0).name
 pub check_entry-requires : goal.check_entry-requires
 check_entry-requires c =
     let pre = c.requires in
-    record { entry = (inside (goal.at.check_entry-requires c).Else-n-eq0).name; small = omega (arith, (inside (goal.at.check_entry-requires c).Else-n-eq0).before, pre.area.small); hash = hash_is (goal.at.check_entry-requires c).After-hash_or_zero-h; tables = pre.tables }
+    record {
+      entry = (inside (goal.at.check_entry-requires c).Else-n-eq0).name;
+      small = omega
+          (arith, (inside (goal.at.check_entry-requires c).Else-n-eq0).before, pre.area.small);
+      hash = hash_is
+          (goal.at.check_entry-requires c).After-hash_or_zero-h;
+      tables = pre.tables;
+    }
 
 pub returns-then-not-not_before-check_entry : goal.returns-then-not-not_before-check_entry
 returns-then-not-not_before-check_entry c =
-    entering_wrong c.loop-left.invariant c.requires.area.inside c.loop-left-test.true (read (goal.at.returns-then-not-not_before-check_entry c).After-check_entry) c.if-not-not_before-check_entry.true
+    entering_wrong c.loop-left.invariant c.requires.area.inside c.loop-left-test.true
+    (read (goal.at.returns-then-not-not_before-check_entry c).After-check_entry) c.if-not-not_before-check_entry.true
 
 pub raise-requires : goal.raise-requires
 raise-requires c =

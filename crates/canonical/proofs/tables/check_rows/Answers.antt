@@ -12,7 +12,8 @@ use Rattle.image.specs.Head.{table_at, bucket_number}
 use Rattle.canonical.specs.Steps.Checks.{row_count, row_ok, table_ok}
 use Rattle.canonical.specs.Steps.Contracts.{CheckRowsPre}
 use Rattle.canonical.proofs.TableLoops.{Rows, rows_start, table_buckets, table_offset, row_room, row_table, row_next, all_passed}
-use Rattle.canonical.proofs.tables.check_rows.Goals.{After-check_table, After-offset_or_zero, After-table_buckets-number, Else-number-c, Else-table_offset-offset_or_zero}
+use Rattle.canonical.proofs.tables.check_rows.Goals.{After-check_table, After-offset_or_zero, After-table_buckets-number, Else-number-c}
+use Rattle.canonical.proofs.tables.check_rows.Goals.{Else-table_offset-offset_or_zero}
 use Rattle.canonical.proofs.tables.check_rows.Goals as goal
 
 -- the number of entries, and that the number of buckets is even
@@ -24,18 +25,27 @@ even c = rw c.table_buckets-number.ensures.is at c.if-number-c.false
 
 -- the offset that the table must have
 wanted : (c : After-offset_or_zero) → c.offset_or_zero.result ≡ cond (eqb (row_count c.args.image.now c.loop-t.t) 0) 0 c.loop-t.o
-wanted c = c.offset_or_zero.ensures ∙ ap (λ (k : ℕ). cond (eqb k 0) 0 c.loop-t.o) (let the-count : c.table_buckets-number.result / 2 ≡ row_count c.args.image.now c.loop-t.t = ap (λ (n : ℕ). n / 2) c.table_buckets-number.ensures.is in the-count)
+wanted c = c.offset_or_zero.ensures ∙ ap (λ (k : ℕ). cond (eqb k 0) 0 c.loop-t.o)
+    (let the-count : c.table_buckets-number.result / 2 ≡ row_count c.args.image.now c.loop-t.t = ap (λ (n : ℕ). n / 2)
+    c.table_buckets-number.ensures.is in the-count)
 
 there : (c : Else-table_offset-offset_or_zero) → table_at c.args.image.now c.loop-t.t ≡ cond (eqb (row_count c.args.image.now c.loop-t.t) 0) 0 c.loop-t.o
-there c = sym c.table_offset.ensures.is ∙ c.if-table_offset-offset_or_zero.false ∙ (let the-wanted : c.offset_or_zero.result ≡ cond (eqb (row_count c.args.image.now c.loop-t.t) 0) 0 c.loop-t.o = c.offset_or_zero.ensures ∙ ap (λ (k : ℕ). cond (eqb k 0) 0 c.loop-t.o) (let the-count : c.table_buckets-number.result / 2 ≡ row_count c.args.image.now c.loop-t.t = ap (λ (n : ℕ). n / 2) c.table_buckets-number.ensures.is in the-count) in the-wanted)
+there c = sym c.table_offset.ensures.is ∙ c.if-table_offset-offset_or_zero.false
+    ∙ (let the-wanted : c.offset_or_zero.result ≡ cond (eqb (row_count c.args.image.now c.loop-t.t) 0) 0 c.loop-t.o = c.offset_or_zero.ensures
+    ∙ ap (λ (k : ℕ). cond (eqb k 0) 0 c.loop-t.o) (let the-count : c.table_buckets-number.result / 2
+    ≡ row_count c.args.image.now c.loop-t.t = ap (λ (n : ℕ). n / 2) c.table_buckets-number.ensures.is in the-count) in the-wanted)
 
 -- the table lies in the image
 room : (c : Else-table_offset-offset_or_zero) → c.loop-t.o + 16 * (c.table_buckets-number.result / 2) ≤ length c.args.image.now
 room c =
-    rw (let the-count : c.table_buckets-number.result / 2 ≡ row_count c.args.image.now c.loop-t.t = ap (λ (n : ℕ). n / 2) c.table_buckets-number.ensures.is in the-count) (row_room c.requires c.loop-t.invariant c.loop-t-test.true (let the-even : bucket_number c.args.image.now c.loop-t.t ≡ 2 * row_count c.args.image.now c.loop-t.t = rw c.table_buckets-number.ensures.is at c.if-number-c.false in the-even) (there c))
+    rw (let the-count : c.table_buckets-number.result / 2 ≡ row_count c.args.image.now c.loop-t.t = ap (λ (n : ℕ). n / 2)
+    c.table_buckets-number.ensures.is in the-count) (row_room c.requires c.loop-t.invariant c.loop-t-test.true
+    (let the-even : bucket_number c.args.image.now c.loop-t.t
+    ≡ 2 * row_count c.args.image.now c.loop-t.t = rw c.table_buckets-number.ensures.is at c.if-number-c.false in the-even) (there c))
 
 table : (c : After-check_table) → c.check_table.result ≡ table_ok c.args.image.now c.loop-t.o (row_count c.args.image.now c.loop-t.t)
-table c = rw (let the-count : c.table_buckets-number.result / 2 ≡ row_count c.args.image.now c.loop-t.t = ap (λ (n : ℕ). n / 2) c.table_buckets-number.ensures.is in the-count) at c.check_table.ensures
+table c = rw (let the-count : c.table_buckets-number.result / 2
+    ≡ row_count c.args.image.now c.loop-t.t = ap (λ (n : ℕ). n / 2) c.table_buckets-number.ensures.is in the-count) at c.check_table.ensures
 
 pub loop-t-init : goal.loop-t-init
 loop-t-init c = rows_start c.requires
@@ -47,14 +57,17 @@ returns-then-number-c c =
 pub returns-then-table_offset-offset_or_zero : goal.returns-then-table_offset-offset_or_zero
 returns-then-table_offset-offset_or_zero c =
     table_offset c.requires c.loop-t.invariant c.loop-t-test.true (even (goal.at.returns-then-table_offset-offset_or_zero c).Else-number-c)
-    (λ y. c.if-table_offset-offset_or_zero.true (c.table_offset.ensures.is ∙ y ∙ sym (wanted (goal.at.returns-then-table_offset-offset_or_zero c).After-offset_or_zero)))
+    (λ y. c.if-table_offset-offset_or_zero.true (c.table_offset.ensures.is ∙ y
+    ∙ sym (wanted (goal.at.returns-then-table_offset-offset_or_zero c).After-offset_or_zero)))
 
 pub check_table-requires : goal.check_table-requires
 check_table-requires c = record { inside = room (goal.at.check_table-requires c).Else-table_offset-offset_or_zero; number = search rules }
 
 pub returns-then-not-check_table : goal.returns-then-not-check_table
 returns-then-not-check_table c =
-    row_table c.requires c.loop-t.invariant c.loop-t-test.true (even (goal.at.returns-then-not-check_table c).Else-number-c) (there (goal.at.returns-then-not-check_table c).Else-table_offset-offset_or_zero) _ (table (goal.at.returns-then-not-check_table c).After-check_table) c.if-not-check_table.true
+    row_table c.requires c.loop-t.invariant c.loop-t-test.true (even (goal.at.returns-then-not-check_table c).Else-number-c)
+    (there (goal.at.returns-then-not-check_table c).Else-table_offset-offset_or_zero) _
+    (table (goal.at.returns-then-not-check_table c).After-check_table) c.if-not-check_table.true
 
 pub overflow_add-o : goal.overflow_add-o
 overflow_add-o c = let r = room (goal.at.overflow_add-o c).Else-table_offset-offset_or_zero in omega arith
@@ -62,7 +75,9 @@ overflow_add-o c = let r = room (goal.at.overflow_add-o c).Else-table_offset-off
 pub loop-t-preserved : goal.loop-t-preserved
 loop-t-preserved c =
     rw (count (goal.at.loop-t-preserved c).After-table_buckets-number)
-    (row_next c.requires c.loop-t.invariant c.loop-t-test.true (even (goal.at.loop-t-preserved c).Else-number-c) (there (goal.at.loop-t-preserved c).Else-table_offset-offset_or_zero) _ (table (goal.at.loop-t-preserved c).After-check_table) c.if-not-check_table.false)
+    (row_next c.requires c.loop-t.invariant c.loop-t-test.true (even (goal.at.loop-t-preserved c).Else-number-c)
+    (there (goal.at.loop-t-preserved c).Else-table_offset-offset_or_zero) _ (table (goal.at.loop-t-preserved c).After-check_table)
+    c.if-not-check_table.false)
 
 pub returns : goal.returns
 returns c = all_passed (row_ok _ _) _ (omega arith) c.loop-t.invariant.same

@@ -26,5 +26,8 @@ next c =
 pub overflow_add-used : goal.overflow_add-used
 overflow_add-used c = let u = next (goal.at.overflow_add-used c).After-used_bit-used in omega (arith, u.back_words_lem.few, u.inside)
 
+pub loop-k-preserved : goal.loop-k-preserved
+loop-k-preserved c = next (goal.at.loop-k-preserved c).After-used_bit-used
+
 pub returns : goal.returns
 returns c = used_end c.loop-k.invariant.back_words_lem (omega (arith, c.loop-k.invariant.inside))

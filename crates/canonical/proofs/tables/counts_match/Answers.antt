@@ -17,7 +17,7 @@ use Rattle.canonical.proofs.tables.counts_match.Goals.{At-loop-t}
 use Rattle.canonical.proofs.tables.counts_match.Goals as goal
 
 -- the test of a row
-matches : (c : At-loop-t) → ℕ → Bool
+abbrev matches : (c : At-loop-t) → ℕ → Bool
 matches c t = let a = c.args in eqb (bucket_number a.image.now t) (2 * get_or a.counts.now t 0)
 
 pub loop-t-init : goal.loop-t-init

@@ -53,7 +53,8 @@ pub loop-left-preserved : goal.loop-left-preserved
 loop-left-preserved c =
     let len = c.size_or_zero-len.ensures.is in
     ahead_next (this (goal.at.loop-left-preserved c).In-loop-left) len
-    (counting_next (this (goal.at.loop-left-preserved c).In-loop-left).holds c.loop-left-test.true c.buckets-length.result _ (omega (arith, c.buckets-length.ok))
+    (counting_next (this (goal.at.loop-left-preserved c).In-loop-left).holds c.loop-left-test.true c.buckets-length.result _
+    (omega (arith, c.buckets-length.type_inv))
     (c.buckets-length.ensures
     ∙ ap reads (c.to_id.ensures ∙ ap (lookup c.args.image.now) (name_is (this (goal.at.loop-left-preserved c).In-loop-left) len c.name_at.ensures)))
     (c.raise_at.ensures ∙ ap (λ (k : ℕ). one_more c.loop-left.counts k) c.bin_of-k.ensures.is))
