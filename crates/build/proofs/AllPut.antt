@@ -133,7 +133,8 @@ module _ (mode : Mode) (repeats : Repeats) (n : ℕ) where
 
     free_due : put_due mode repeats n es e ≡ 0
     unfolding put_due
-    free_due = decided (has_zero x) (contains_name x es && refuses_repeats repeats) (too_large n (size_of mode next)) (f.zeros 0 (omega arith)) free_new free_room
+    free_due =
+        decided (has_zero x) (contains_name x es && refuses_repeats repeats) (too_large n (size_of mode next)) (f.zeros 0 (omega arith)) free_new free_room
       where
         decided : (z h t : Bool) → z ≡ false → h ≡ false → t ≡ false → ◌≡◌ {A = ℕ} (cond z 13 (cond h 16 (cond t 3 0))) 0
         decided z h t p q r = rw (p, q, r) refl
@@ -177,7 +178,8 @@ module _ (mode : Mode) (repeats : Repeats) (n : ℕ) where
 
 -- ---- the list
 
-module _ (mode : Mode) (repeats : Repeats) (buffer bytes ends ids : List ℕ) (good : invalid_ends (length bytes) 0 ends ≡ false) (many : length ends ≤ length ids)
+module _ (mode : Mode) (repeats : Repeats) (buffer bytes ends ids : List ℕ) (good : invalid_ends (length bytes) 0 ends ≡ false)
+    (many : length ends ≤ length ids)
     (room : head_size ≤ length buffer) (fits : RoomForAll mode ends ids (length buffer)) (words : (i : ℕ) → i < length ends → get_or ids i 0 < 2 ^ 32)
     (zeros : (i : ℕ) → i < length ends → has_zero (nth (names bytes ends) i) ≡ false)
     (apart : refuses_repeats repeats ≡ true → (i j : ℕ) → j < i → i < length ends → same (nth (names bytes ends) j) (nth (names bytes ends) i) ≡ false) where

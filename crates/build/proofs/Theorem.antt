@@ -17,7 +17,7 @@ build_holds =
       answered = λ mode repeats buffer bytes ends ids room word. calls_answered mode repeats buffer (listed bytes ends ids) room word;
       refused_kept = λ mode repeats buffer bytes ends ids places bufferThen k e left.
           let some = refused_some mode repeats buffer bytes ends ids (length places) k e in
-          let out = refused_build mode repeats buffer bytes ends ids places _ refl some some in
-          (left.refused some, sym out.1.1.0);
+          let out = refused_build mode repeats buffer bytes ends ids places _ refl some in
+          (left.refused some, sym out.1.1);
       kept_from = λ mode xs ids same. needs_hold.exact mode xs ids same ∙ ap at_most (size_of_is mode (puts (calls_of xs ids)));
     }

@@ -63,16 +63,16 @@ module _ (mode : Mode) (repeats : Repeats) (buffer bytes ends ids places : List 
   given b k = cond b (refusal k) (value (made_of mode repeats buffer (listed bytes ends ids)))
 
   -- a refusal writes nothing
-  pub refused_build : (k : ℕ) → build_refusal bytes ends (length ids) (length places) (length buffer) ≡ k → 0 < k → {X : Type 0} → X
+  pub refused_build : (k : ℕ) → build_refusal bytes ends (length ids) (length places) (length buffer) ≡ k → 0 < k
       → (refusal k ≡ building mode repeats buffer bytes ends ids (length places))
-      × (BufferBuilt mode repeats buffer bytes ends ids (length places) buffer × ((places ≡ answers_after mode repeats buffer bytes ends ids places) × X))
+      × (BufferBuilt mode repeats buffer bytes ends ids (length places) buffer × (places ≡ answers_after mode repeats buffer bytes ends ids places))
   unfolding building answers_after
-  refused_build k e h x =
+  refused_build k e h =
       let t : ltb 0 (build_refusal bytes ends (length ids) (length places) (length buffer)) ≡ true = ap (ltb 0) e ∙ lt-ltb 0 k h in (
         sym (ap₂ given t e),
         (
           record { refused = λ l. refl; imaged = λ z. absurd (omega (arith, e, h, z)); behind = λ z. refl },
-          (sym (ap (λ (b : Bool). cond b places told) t), x),
+          sym (ap (λ (b : Bool). cond b places told) t),
         ),
       )
 

@@ -37,12 +37,12 @@ pub whole_forth : (image : List ℕ) → is_whole image ≡ true → Whole image
 whole_forth image h = by_case (canonical image) refl h
   where
     by_case : (t : Bool) → canonical image ≡ t → cond t (eqb (word image 8) 0) false ≡ true → Whole image
-    by_case true e q = record { is_canonical = e; two_way_lem = ap (λ (u : Bool). cond u Twoway Oneway) q }
+    by_case true e q = record { is_canonical = e; two_way = ap (λ (u : Bool). cond u Twoway Oneway) q }
     by_case false e q = absurd (false_not_true q)
 
 pub whole_back : (image : List ℕ) → Whole image → is_whole image ≡ true
 whole_back image w =
-    ap (λ (t : Bool). cond t (eqb (word image 8) 0) false) w.is_canonical ∙ two_way_so (eqb (word image 8) 0) w.two_way_lem
+    ap (λ (t : Bool). cond t (eqb (word image 8) 0) false) w.is_canonical ∙ two_way_so (eqb (word image 8) 0) w.two_way
 
 -- ---- 2, 3
 module _ (lists : Lists) (i : ℕ) where

@@ -103,7 +103,7 @@ verdict_is old new sheet round accepted = refl
 -- ---- the sheet
 module _ (file : Slice) (round : List ℕ) where
   abbrev listed : Outcome Sheet → Verdict
-  listed x = of_sheet (sheet.and_then x (λ (s : Sheet). value (sheet.lists_of_lem file.bytes s))) round
+  listed x = of_sheet (sheet.and_then x (λ (s : Sheet). value (sheet.lists_of file.bytes s))) round
 
   pub sheet_refused : (k : ℕ) → refusal k ≡ sheet.read_sheet file.bytes → SheetRefused k ≡ of_sheet (read_lists file.bytes) round
   unfolding sheet.read_lists

@@ -147,10 +147,10 @@ module _ (file : Slice) where
   same_lists : (l m : Lists) → ◌≡◌ {A = Outcome Lists} (value l) (value m) → l ≡ m
   same_lists l m e = cc
 
-  sections_are : (x : Outcome Sheet) (l : Lists) → sheet.and_then x (λ (s : Sheet). value (sheet.lists_of_lem file.bytes s)) ≡ value l
+  sections_are : (x : Outcome Sheet) (l : Lists) → sheet.and_then x (λ (s : Sheet). value (sheet.lists_of file.bytes s)) ≡ value l
       → (ids_in (sheet.section_or_empty file References x).bytes ≡ l.references) × (ids_in (sheet.section_or_empty file Walls x).bytes ≡ l.walls)
   sections_are (value s) l e =
-      let f = same_lists (sheet.lists_of_lem file.bytes s) l e in
+      let f = same_lists (sheet.lists_of file.bytes s) l e in
       (ap (λ (m : Lists). m.references) f, ap (λ (m : Lists). m.walls) f)
   sections_are (refusal k) l e = no_lists k l e
 

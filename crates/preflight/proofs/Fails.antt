@@ -181,7 +181,7 @@ module _ (old new round accepted : List ℕ) where
         other_there = o.there;
         different = o.different;
         has = o.given;
-        other_has_lem = o.has;
+        other_has = o.has;
       }
 
   pub shows_renamed : (p : ℕ) → first_renamed (name_given old) (name_given new) accepted round ≡ place.At p → ShowsRenamed old new round accepted p

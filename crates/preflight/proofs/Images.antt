@@ -30,7 +30,7 @@ use Rattle.preflight.proofs.Alone.{whole_back}
 
 module _ (img : List ℕ) (m : Made img) (two : m.mode ≡ Twoway) where
   made_whole : is_whole img ≡ true
-  made_whole = whole_back img (record { is_canonical = canonical_yes img m; two_way_lem = made_mode img m ∙ two })
+  made_whole = whole_back img (record { is_canonical = canonical_yes img m; two_way = made_mode img m ∙ two })
 
   made_names : name_given img ≡ names_of m.puts
   made_names = λ i id. gives_last img m (made_mode img m ∙ two) id i

@@ -63,7 +63,7 @@ made mode = record { mode = mode; puts = puts; each = each; fits = fits mode; is
 
 one_way_not : ¬ Whole one_way
 one_way_not w =
-    let e : Oneway ≡ Twoway = sym (made_mode one_way (made Oneway)) ∙ w.two_way_lem in
+    let e : Oneway ≡ Twoway = sym (made_mode one_way (made Oneway)) ∙ w.two_way in
     let z : ◌≡◌ {A = ℕ} 0 1 = cc in
     omega arith
 

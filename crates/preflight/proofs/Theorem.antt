@@ -163,7 +163,7 @@ leaves = record {
   no_false_movement = λ old new sheet round accepted i j name h m e d. (forth old new sheet round accepted h).not_taken i j name m e d;
   no_false_movement_one = λ old new sheet round accepted i j name bytes one h m e d.
       let l = forth old new sheet round accepted h in
-      let both_ways = one_to_one_lem.inverse new bytes l.alone.new_whole.two_way_lem one name in
+      let both_ways = one_to_one_lem.inverse new bytes l.alone.new_whole.two_way one name in
       one_id (found_id (lookup new name)) i j ((both_ways i).1 d) ((both_ways j).1 (l.not_taken i j name m e d));
   one_sighting_one_name = λ old new sheet round accepted i k h m n e.
       (forth old new sheet round accepted h).alone.round_named.one_name i k m n e;

@@ -22,5 +22,5 @@ preflight_first new sheet round =
 
 abbrev pub preflight : List ℕ → List ℕ → List ℕ → List ℕ → List ℕ → Answer
 preflight old new sheet round accepted =
-    answer_of (verdict old new sheet round accepted) (compared_in (name_given old) round) (added_in (name_given old) round)
-    (unsighted_in (read_lists sheet) round)
+    answer_of (verdict old new sheet round accepted) (compared_in (name_given old) round)
+    (added_in (name_given old) round) (unsighted_in (read_lists sheet) round)

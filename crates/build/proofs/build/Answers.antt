@@ -19,25 +19,31 @@ pub returns-then-invalid_ends : goal.returns-then-invalid_ends
 returns-then-invalid_ends c =
     let a = c.args in
     let told = refusal_14 _ _ _ _ _ (sym c.invalid_ends.ensures ∙ c.if-invalid_ends.true) in
-    refused_build a.mode a.repeats a.buf.now a.bytes.now a.ends.now a.ids.now a.refusals.now 14 told (omega arith) (λ h. refl)
+    let out = refused_build a.mode a.repeats a.buf.now a.bytes.now a.ends.now a.ids.now a.refusals.now 14 told (omega arith) in
+    record { answer = out.0; leaves = out.1.0; answers = out.1.1; untouched = λ h. refl }
 
 pub returns-then-ids-n : goal.returns-then-ids-n
 returns-then-ids-n c =
     let a = c.args in
     let told = refusal_15 _ _ _ _ _ (straight (goal.at.returns-then-ids-n c).Else-invalid_ends) c.if-ids-n.true in
-    refused_build a.mode a.repeats a.buf.now a.bytes.now a.ends.now a.ids.now a.refusals.now 15 told (omega arith) (λ h. refl)
+    let out = refused_build a.mode a.repeats a.buf.now a.bytes.now a.ends.now a.ids.now a.refusals.now 15 told (omega arith) in
+    record { answer = out.0; leaves = out.1.0; answers = out.1.1; untouched = λ h. refl }
 
 pub returns-then-refusals-n : goal.returns-then-refusals-n
 returns-then-refusals-n c =
     let a = c.args in
     let told = refusal_15_places _ _ _ _ _ (straight (goal.at.returns-then-refusals-n c).Else-invalid_ends) c.if-ids-n.false c.if-refusals-n.true in
-    refused_build a.mode a.repeats a.buf.now a.bytes.now a.ends.now a.ids.now a.refusals.now 15 told (omega arith) (λ h. refl)
+    let out = refused_build a.mode a.repeats a.buf.now a.bytes.now a.ends.now a.ids.now a.refusals.now 15 told (omega arith) in
+    record { answer = out.0; leaves = out.1.0; answers = out.1.1; untouched = λ h. refl }
 
 pub returns-then-buf-lt-HEAD_SIZE : goal.returns-then-buf-lt-HEAD_SIZE
 returns-then-buf-lt-HEAD_SIZE c =
     let a = c.args in
-    let told = refusal_1 _ _ _ _ _ (straight (goal.at.returns-then-buf-lt-HEAD_SIZE c).Else-invalid_ends) c.if-ids-n.false c.if-refusals-n.false c.if-buf-lt-HEAD_SIZE.true in
-    refused_build a.mode a.repeats a.buf.now a.bytes.now a.ends.now a.ids.now a.refusals.now 1 told (omega arith) (λ h. refl)
+    let told =
+    refusal_1 _ _ _ _ _ (straight (goal.at.returns-then-buf-lt-HEAD_SIZE c).Else-invalid_ends) c.if-ids-n.false c.if-refusals-n.false
+    c.if-buf-lt-HEAD_SIZE.true in
+    let out = refused_build a.mode a.repeats a.buf.now a.bytes.now a.ends.now a.ids.now a.refusals.now 1 told (omega arith) in
+    record { answer = out.0; leaves = out.1.0; answers = out.1.1; untouched = λ h. refl }
 
 pub build_list-requires : goal.build_list-requires
 build_list-requires c =
@@ -54,10 +60,10 @@ returns c =
     let a = c.args in
     let none = refusal_none a.bytes.now a.ends.now (length a.ids.now) (length a.refusals.now) (length a.buf.now)
     (straight (goal.at.returns c).Else-invalid_ends) c.if-ids-n.false c.if-refusals-n.false c.if-buf-lt-HEAD_SIZE.false in
-    let out = c.build_list.ensures in (
-      out.gives,
-      (
-        record { refused = λ h. absurd (omega (arith, none, h)); imaged = λ z. out.imaged; behind = λ z. out.behind },
-        (out.answers, λ h. absurd (omega (arith, none, h))),
-      ),
-    )
+    let out = c.build_list.ensures in
+    record {
+      answer = out.gives;
+      leaves = record { refused = λ h. absurd (omega (arith, none, h)); imaged = λ z. out.imaged; behind = λ z. out.behind };
+      answers = out.answers;
+      untouched = λ h. absurd (omega (arith, none, h));
+    }

@@ -19,10 +19,10 @@ use Rattle.build.proofs.build_direct.Goals as goal
 
 -- ---- what is known at them
 words : (c : After-any_zero) (i : ℕ) → i < length c.args.ends.now → get_or c.args.ids.now i 0 < 2 ^ 32
-words c i h = omega (arith, c.shared_slice_known-3-1.given i)
+words c i h = omega (arith, c.type_inv.ids i)
 
 hashes_long : (c : After-hash_list) → length c.args.ends.now ≤ length c.hash_list.new.hashes
-hashes_long c = omega (arith, c.hash_list.auto.1.1.0, c.requires.list.refusals_long)
+hashes_long c = omega (arith, c.hash_list.auto.hashes, c.requires.list.refusals_long)
 
 few : (s : Start) → length s.args.ends.now ≤ 4294967295
 few s = omega (arith, sum_small s.requires.list.ids_long s.requires.capacity.fits)
@@ -70,7 +70,13 @@ write_list-written-requires c =
 pub returns-then-stop-written : goal.returns-then-stop-written
 returns-then-stop-written c =
     let kept = c.write_list-written.ensures.behind in
-    record { count_fits = few (goal.at.returns-then-stop-written c).Start; built = λ some. absurd (omega arith); behind = kept; rest = λ z. c.hash_list.ensures.rest }
+    record {
+      count_fits = few (goal.at.returns-then-stop-written c).Start;
+      built = λ some. absurd (omega arith);
+      behind = kept;
+      rest =
+          λ z. c.hash_list.ensures.rest;
+    }
 
 pub returns : goal.returns
 returns c =
@@ -79,19 +85,28 @@ returns c =
     let apart : refuses_repeats a.repeats ≡ true → Distinct (list_entries a.bytes.now a.ends.now a.ids.now) = λ off.
     c.write_list-written.ensures.distinct
     (sym (ap (λ (b : Bool). b && c.write_list-written.result.met) (c.refuses-stop.ensures ∙ off)) ∙ c.if-stop-written.false) in
-    let cleared = refusals_cleared n _ c.hash_list.new.hashes a.refusals.now c.clear_words.auto.0 (hashes_long (goal.at.returns c).After-hash_list) c.clear_words.ensures
+    let cleared =
+    refusals_cleared n _ c.hash_list.new.hashes a.refusals.now c.clear_words.auto.words (hashes_long (goal.at.returns c).After-hash_list)
+    c.clear_words.ensures
     c.hash_list.ensures.rest in
     let done = c.write_list-written.ensures in
     record {
       count_fits = few (goal.at.returns c).Start;
-      built = λ some. all_built a.mode a.repeats c.requires.list c.requires.capacity.fits (words (goal.at.returns c).After-any_zero) (clean (goal.at.returns c).After-hash_list) apart
+      built = λ some. all_built a.mode a.repeats c.requires.list c.requires.capacity.fits (words (goal.at.returns c).After-any_zero)
+          (clean (goal.at.returns c).After-hash_list) apart
           done.sized (done.leaves c.if-stop-written.false) done.behind cleared;
       behind = done.behind;
       rest = λ y. ap (drop n) cleared ∙ drop_at (replicate n 0) (drop n a.refusals.now) n (length-replicate {A = ℕ} n 0);
     }
 
 pub returns-then-any_zero : goal.returns-then-any_zero
-returns-then-any_zero c = record { count_fits = few (goal.at.returns-then-any_zero c).Start; built = λ some. absurd (omega arith); behind = refl; rest = λ z. refl }
+returns-then-any_zero c = record {
+  count_fits = few (goal.at.returns-then-any_zero c).Start;
+  built = λ some. absurd (omega arith);
+  behind = refl;
+  rest =
+      λ z. refl;
+}
 
 pub clear_words-requires : goal.clear_words-requires
 clear_words-requires c = omega (arith, hashes_long (goal.at.clear_words-requires c).After-hash_list)

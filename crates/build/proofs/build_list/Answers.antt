@@ -10,7 +10,7 @@ use Rattle.build.proofs.build_list.Goals.{After-has_capacity}
 use Rattle.build.proofs.build_list.Goals as goal
 
 word_ids : (c : After-has_capacity) → let a = c.args in (i : ℕ) → i < length a.ends.now → get_or a.ids.now i 0 < 2 ^ 32
-word_ids c i h = omega (arith, c.shared_slice_known-3-1.given i)
+word_ids c i h = omega (arith, c.type_inv.ids i)
 
 -- ---- the needs
 pub build_direct-size-requires : goal.build_direct-size-requires
@@ -20,20 +20,20 @@ build_direct-size-requires c =
 pub build_singly-requires-2 : goal.build_singly-requires-2
 build_singly-requires-2 c =
     let p = c.requires in
-    let k = c.build_direct-size.kept in
+    let k = c.build_direct-size.auto in
     record {
       packed = p.packed;
       ids_long = p.ids_long;
-      refusals_long = omega (arith, p.refusals_long, k.1.1.1.1.1.1.0);
-      head_fits = omega (arith, p.head_fits, k.1.1.0);
+      refusals_long = omega (arith, p.refusals_long, k.refusals);
+      head_fits = omega (arith, p.head_fits, k.buf);
     }
 
 pub returns : goal.returns
 returns c =
-    let k = c.build_direct-size.kept in
+    let k = c.build_direct-size.auto in
     let t = c.build_direct-size.ensures in
     let none : c.build_direct-size.result ≡ 0 = omega (arith, c.if-size-gt0.false) in
-    built_after c.args.mode c.args.repeats c.requires (word_ids (goal.at.returns c).After-has_capacity) k.1.1.0 t.behind k.1.1.1.1.1.1.0 (t.rest none)
+    built_after c.args.mode c.args.repeats c.requires (word_ids (goal.at.returns c).After-has_capacity) k.buf t.behind k.refusals (t.rest none)
     c.build_singly-2.ensures
 
 pub build_singly-requires : goal.build_singly-requires

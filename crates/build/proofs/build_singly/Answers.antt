@@ -15,11 +15,12 @@ use Rattle.build.proofs.build_singly.Goals.{After-put_list-after, After-scratch_
 use Rattle.build.proofs.build_singly.Goals as goal
 
 -- ---- what is known at them
-slots_long : (c : After-scratch_for_index-words) → let a = c.args in length (take c.scratch_for_index-words.result a.scratch.now) ≡ c.scratch_for_index-words.result
+slots_long : (c : After-scratch_for_index-words) → let a = c.args in
+    length (take c.scratch_for_index-words.result a.scratch.now) ≡ c.scratch_for_index-words.result
 slots_long c = length-take-le c.scratch_for_index-words.result c.args.scratch.now c.scratch_for_index-words.ensures.within
 
 word_ids : (c : After-put_list-after) → let a = c.args in (i : ℕ) → i < length a.ends.now → get_or a.ids.now i 0 < 2 ^ 32
-word_ids c i h = omega (arith, c.shared_slice_known-3-1.given i)
+word_ids c i h = omega (arith, c.type_inv.ids i)
 
 -- the list is put
 leaves : (c : After-put_list-after) → let a = c.args in
@@ -35,23 +36,29 @@ leaves c =
 pub put_list-after-requires : goal.put_list-after-requires
 put_list-after-requires c =
     let a = c.args in
-    let long : length c.clear_words.last.0 ≡ c.scratch_for_index-words.result = c.clear_words.kept.0 ∙ slots_long (goal.at.put_list-after-requires c).After-scratch_for_index-words in
+    let long : length c.clear_words.new.words ≡ c.scratch_for_index-words.result =
+    c.clear_words.auto.words ∙ slots_long (goal.at.put_list-after-requires c).After-scratch_for_index-words in
     record {
       list = c.requires;
       begun = begun_fresh a.mode a.repeats a.buf.now _ _ refl c.fresh_writer-w.ensures;
-      cleared = all_zero c.clear_words.last.0 c.scratch_for_index-words.result long c.clear_words.ensures.zero;
+      cleared = all_zero c.clear_words.new.words c.scratch_for_index-words.result long c.clear_words.ensures.zero;
       enough = λ some. omega (arith, c.scratch_for_index-words.ensures.enough (omega (arith, some, long)), long);
     }
 
 pub finish_list-requires : goal.finish_list-requires
 finish_list-requires c =
-    record { closes = list_closes c.args.mode c.args.repeats c.requires (word_ids (goal.at.finish_list-requires c).After-put_list-after) (leaves (goal.at.finish_list-requires c).After-put_list-after) }
+    record {
+      closes =
+          list_closes c.args.mode c.args.repeats c.requires (word_ids (goal.at.finish_list-requires c).After-put_list-after)
+          (leaves (goal.at.finish_list-requires c).After-put_list-after);
+    }
 
 pub returns : goal.returns
 returns c =
     let a = c.args in
     let cs = listed a.bytes.now a.ends.now a.ids.now in
-    list_built a.mode a.repeats c.requires (word_ids (goal.at.returns c).After-put_list-after) (leaves (goal.at.returns c).After-put_list-after) c.finish_list.ensures
+    list_built a.mode a.repeats c.requires (word_ids (goal.at.returns c).After-put_list-after) (leaves (goal.at.returns c).After-put_list-after)
+    c.finish_list.ensures
     (c.put_list-after.ensures.answers
     ∙ ap (λ (x : CQDBWriter). answers_of x.mode x.repeats a.buf.now cs ++ drop (length a.ends.now) a.refusals.now)
     c.fresh_writer-w.ensures)

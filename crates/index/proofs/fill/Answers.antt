@@ -10,15 +10,15 @@ use Rattle.index.proofs.fill.Goals.{After-first_empty_slot-k}
 use Rattle.index.proofs.fill.Goals as goal
 
 read : (p : After-first_empty_slot-k) → EntryRead p.args.buf.now p.loop-left.at p.args.end p.whole_length-n.result
-    p.name_at.result.now p.h-1.given.0.0
+    p.name_at.result.now p.in-Hash.h
 read p =
     record {
       is = p.whole_length-n.ensures.is;
       named = p.name_at.ensures.is;
       sized = p.name_at.ensures.size;
       hash =
-          (result_name_hash p.name_at.result.now p.name_hash.result p.h-1.given.0.0 p.name_hash.ensures
-          p.h-1.given.1).1;
+          (result_name_hash p.name_at.result.now p.name_hash.result p.in-Hash.h p.name_hash.ensures
+          p.in-Hash.is).1;
     }
 
 pub loop-left-init : goal.loop-left-init
@@ -57,7 +57,7 @@ overflow_cast-at c =
 
 pub store_slot-requires : goal.store_slot-requires
 store_slot-requires c =
-    (empty_slot c.requires c.loop-left.invariant c.loop-left-test.true c.first_empty_slot-k.result c.h-1.given.0.0 c.first_empty_slot-k.ensures).0
+    (empty_slot c.requires c.loop-left.invariant c.loop-left-test.true c.first_empty_slot-k.result c.in-Hash.h c.first_empty_slot-k.ensures).0
 
 pub overflow_add-at : goal.overflow_add-at
 overflow_add-at c = omega (arith, c.whole_length-n.ensures.small)
@@ -77,7 +77,8 @@ loop-left-preserved c =
     let a = c.args in
     let next = c.loop-left.at + (8 + c.whole_length-n.result) in
     subst (Filling a.buf.now a.end a.entries a.slots.now next (c.loop-left.left - 1)) (sym c.store_slot.ensures)
-    (filling_turn c.requires c.loop-left.invariant c.loop-left-test.true (read (goal.at.loop-left-preserved c).After-first_empty_slot-k) c.first_empty_slot-k.ensures)
+    (filling_turn c.requires c.loop-left.invariant c.loop-left-test.true (read (goal.at.loop-left-preserved c).After-first_empty_slot-k)
+    c.first_empty_slot-k.ensures)
 
 pub shape_of-slots : goal.shape_of-slots
 shape_of-slots c = c.loop-left.invariant.long

@@ -24,13 +24,14 @@ returns-then-m-w c =
 pub fill-requires : goal.fill-requires
 fill-requires c =
     let z = c.clear_words in
-    let kept = z.kept.0 in
+    let kept = z.auto.words in
     let a = c.args in
-    fillable a.w a.counts.now a.buf.now z.last.0 (closes (goal.at.fill-requires c).Else-refusal-ne0) (omega (arith, kept, c.if-m-w.false))
+    fillable a.w a.counts.now a.buf.now z.new.words (closes (goal.at.fill-requires c).Else-refusal-ne0) (omega (arith, kept, c.if-m-w.false))
     (λ i h. z.ensures.zero i (omega (arith, h, kept)))
 
 pub returns : goal.returns
 returns c =
     let z = c.clear_words in
-    index_made (state_with c.args.w c.args.counts.now c.args.buf.now) c.args.slots.now (closes (goal.at.returns c).Else-refusal-ne0) z.last.0 _ z.kept.0 z.ensures.kept c.fill.ensures
+    index_made (state_with c.args.w c.args.counts.now c.args.buf.now) c.args.slots.now (closes (goal.at.returns c).Else-refusal-ne0) z.new.words _ z.auto.words
+    z.ensures.kept c.fill.ensures
     (omega (arith, c.if-m-w.false))

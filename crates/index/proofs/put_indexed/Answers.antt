@@ -13,7 +13,7 @@ use Rattle.index.proofs.put_indexed.Goals.{After-decide-d}
 use Rattle.index.proofs.put_indexed.Goals as goal
 
 bytes : (d : After-decide-d) → (i : ℕ) → get_or d.args.buf.now i 0 < 256
-bytes d i = omega (arith, d.slice_known-1.given i)
+bytes d i = search rules
 
 bounds : (d : After-decide-d) → d.decide-d.result.refusal ≡ 0
     → let a = d.args in

@@ -1,7 +1,8 @@
 -- Lists of calls by an index: 01, "Whole lists (demand 3)", where each put is a put by the index, the buffer may grow
 -- and the index be made anew. Each call is lent record, counts, buffer and slots as the call before left them. It
 -- speaks of demand 3's definitions: `answers_of`, `after_list`, `due`.
-use Rattle.std.specs.Prelude.{ℕ, ◌≤◌, ◌≡◌, true, cond, ◌&&◌, List, [], ◌∷◌, ◌++◌, map, length, replicate, eqb, ltb, leb}
+use Rattle.std.specs.Prelude.{ℕ, ◌≤◌, ◌≡◌, true, cond, ◌&&◌, List, [], ◌∷◌, ◌++◌, map, length, replicate, eqb, ltb}
+use Rattle.std.specs.Prelude.{leb}
 use Rattle.jhash.specs.Refusals as refused
 use Rattle.image.specs.declared.Mode.{Mode}
 use Rattle.image.specs.Image.{Entry, head_size}
@@ -9,7 +10,8 @@ use Rattle.writer.specs.declared.Repeats.{Repeats}
 use Rattle.writer.specs.State.{State, fresh, refuses_repeats}
 use Rattle.writer.specs.Close.{close_refusal, after_close, closed_image}
 use Rattle.writer.specs.Grown.{grown_refusal}
-use Rattle.lists.specs.Calls.{Call, put, close, put_all, accepted_one, accepted_by, accepted_after, put_due, due, WordIds}
+use Rattle.lists.specs.Calls.{Call, put, close, put_all, accepted_one, accepted_by, accepted_after, put_due, due}
+use Rattle.lists.specs.Calls.{WordIds}
 use Rattle.lists.specs.Demand3.{answers_of, after_list, accepted_puts, image_of}
 use Rattle.lists.specs.Theorems.LongerBuffer.{moved_to, Longer}
 use Rattle.index.specs.Index.{slot_count, Right}

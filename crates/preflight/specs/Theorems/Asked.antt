@@ -17,7 +17,7 @@ In id (x ∷ xs) = (x ≡ id) ⊎ In id xs
 -- 1, 7
 pub record Whole (image : List ℕ) : Type 0 where
   pub is_canonical : canonical image ≡ true
-  pub two_way_lem : mode_in image ≡ Twoway
+  pub two_way : mode_in image ≡ Twoway
 
 -- 2, 3: the sheet reads, and each id of the round is on it once, as a reference or a wall prism
 pub record OnSheet (sheet round : List ℕ) : Type 0 where

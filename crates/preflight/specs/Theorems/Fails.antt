@@ -39,7 +39,7 @@ pub record ShowsShared (new round : List ℕ) (p q : ℕ) : Type 0 where
   pub other_there : get_elem? round q ≡ some other
   pub different : ¬ (other ≡ id)
   pub has : name_given new id ≡ some name
-  pub other_has_lem : name_given new other ≡ some name
+  pub other_has : name_given new other ≡ some name
 
 -- 9: the id at place p has lost its name, and is not accepted
 pub record ShowsRenamed (old new round accepted : List ℕ) (p : ℕ) : Type 0 where

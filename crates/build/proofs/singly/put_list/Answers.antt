@@ -44,9 +44,9 @@ loop-i-preserved c =
     record {
       inside = omega (arith, c.loop-i-test.true);
       buffer_length = search rules;
-      slots_length = done.kept.1.1.1.0 ∙ c.loop-i.invariant.slots_length;
-      puts = puts_turn g inside many room _ c.nth_name-name.ensures done.result.refusal _ done.last.1.1.1.0 done.ensures
-          done.kept.1.1.1.0;
+      slots_length = done.auto.slots ∙ c.loop-i.invariant.slots_length;
+      puts = puts_turn g inside many room _ c.nth_name-name.ensures done.result.refusal _ done.new.slots done.ensures
+          done.auto.slots;
     }
 
 pub returns : goal.returns

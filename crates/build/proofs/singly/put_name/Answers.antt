@@ -5,7 +5,7 @@ use Rattle.build.proofs.singly.put_name.Goals as goal
 
 pub returns-then-slots-eq0 : goal.returns-then-slots-eq0
 returns-then-slots-eq0 c =
-    by_rule c.if-slots-eq0.true c.put.ensures.0 c.put.ensures.1
+    by_rule c.if-slots-eq0.true c.put.ensures.answer c.put.ensures.leaves
 
 pub returns : goal.returns
 returns c =

@@ -3,7 +3,7 @@ use Prim.Native.Nat.{ℕ}
 use native.Mathlib.Omega.{arith}
 use mathlib.Core.Path.{◌≡◌, sym, ap, subst, ◌∙◌}
 use mathlib.Core.Bool.{Bool, false}
-use mathlib.Core.Logic.{⊎_elim}
+use Rattle.index.proofs.slots.probe.Goals.{then-slot_hash-h+else-has_name, else-slot_hash-h}
 use Rattle.index.specs.Index.{slot_count, slot_at}
 use Rattle.index.specs.Probe.{has_name_at}
 use Rattle.index.proofs.Probing.{Rest, rest_start, probe_none, rest_end, rest_empty, rest_match, rest_next}
@@ -60,10 +60,10 @@ loop-left-preserved c =
     let words = c.args.slots.now in
     let v = (has_name_at c.args.bytes.now c.args.name.now) in
     let other : (slot_at words c.loop-left.k).hash ≡ c.args.h → v (slot_at words c.loop-left.k).at ≡ false = λ e.
-    ⊎_elim
-    (λ w. says v c.offset_at-at.ensures w.1.ensures w.2.left)
-    (λ w. absurd (w.left (c.slot_hash.ensures ∙ e)))
-    c.if-slot_hash-h.branch in
+    elim c.if-slot_hash-h.branch [
+      | then-slot_hash-h+else-has_name w ↦ says v c.offset_at-at.ensures w.has_name.ensures w.if-has_name.false
+      | else-slot_hash-h w ↦ absurd (w.if-slot_hash-h.false (c.slot_hash.ensures ∙ e))
+    ] in
     rest_next c.loop-left.invariant c.loop-left-test.true (λ z. c.if-at-eq0.false (c.offset_at-at.ensures ∙ z)) other c.next-k.result c.next-k.ensures.is
     c.next-k.ensures.inside
 

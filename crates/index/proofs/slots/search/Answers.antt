@@ -3,14 +3,13 @@ use Prim.Native.Nat.{ℕ}
 use mathlib.Core.Path.{sym, ap, ◌∙◌}
 use mathlib.Core.Bool.{Bool, cond}
 use borrow.Author.Rules.{rules}
-use borrow.Author.Tests.{not-true, not-false}
 use Rattle.index.specs.Index.{slot_count}
 use Rattle.index.specs.Probe.{has_name_at, probe_slots}
 use Rattle.index.proofs.slots.search.Goals.{Start}
 use Rattle.index.proofs.slots.search.Goals as goal
 
 -- what the search comes to, by whether the name is sought
-choice : (s : Start) → Bool → ℕ
+abbrev choice : (s : Start) → Bool → ℕ
 choice s b =
     let a = s.args in
     cond b (probe_slots a.slots.now a.h (has_name_at a.bytes.now a.name.now)) (slot_count a.slots.now)

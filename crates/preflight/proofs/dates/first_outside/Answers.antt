@@ -13,13 +13,13 @@ use Rattle.preflight.proofs.dates.first_outside.Goals as goal
 pub returns-then-not-some_holds : goal.returns-then-not-some_holds
 returns-then-not-some_holds c =
     sym (place_here (let a = c.args in outside (windows_in a.windows.now) a.last a.date) c.args.round.now c.loop-i.i c.loop-i-test.true
-    (ap not (sym c.some_holds.ensures) ∙ c.if-not-some_holds.true))
+    (ap not (sym c.some_holds.ensures ∙ c.if-not-some_holds.true)))
     ∙ c.loop-i.invariant
 
 pub loop-i-preserved : goal.loop-i-preserved
 loop-i-preserved c =
     place_on (let a = c.args in outside (windows_in a.windows.now) a.last a.date) c.args.round.now c.loop-i.i c.loop-i-test.true
-    (ap not (sym c.some_holds.ensures) ∙ c.if-not-some_holds.false)
+    (ap not (sym c.some_holds.ensures ∙ c.if-not-some_holds.false))
     ∙ c.loop-i.invariant
 
 pub returns : goal.returns

@@ -43,23 +43,29 @@ returns-then-not-is_date-2 c =
 pub returns-then-some_invalid : goal.returns-then-some_invalid
 returns-then-some_invalid c =
     let a = c.args in
-    dates_by (windows_in a.windows.now) a.round.now a.last a.date true true true _ _ (last_so (goal.at.returns-then-some_invalid c).After-is_date-2) (date_so (goal.at.returns-then-some_invalid c).After-some_invalid)
+    dates_by (windows_in a.windows.now) a.round.now a.last a.date true true true _ _ (last_so (goal.at.returns-then-some_invalid c).After-is_date-2)
+    (date_so (goal.at.returns-then-some_invalid c).After-some_invalid)
     (sym c.some_invalid.ensures ∙ c.if-some_invalid.true) refl refl
 
 pub returns-then-some_inverted : goal.returns-then-some_inverted
 returns-then-some_inverted c =
     let a = c.args in
-    dates_by (windows_in a.windows.now) a.round.now a.last a.date true true false true _ (last_so (goal.at.returns-then-some_inverted c).After-is_date-2) (date_so (goal.at.returns-then-some_inverted c).After-some_invalid) (dates_so (goal.at.returns-then-some_inverted c).After-some_inverted)
+    dates_by (windows_in a.windows.now) a.round.now a.last a.date true true false true _ (last_so (goal.at.returns-then-some_inverted c).After-is_date-2)
+    (date_so (goal.at.returns-then-some_inverted c).After-some_invalid) (dates_so (goal.at.returns-then-some_inverted c).After-some_inverted)
     (sym c.some_inverted.ensures ∙ c.if-some_inverted.true) refl
 
 pub returns-in-At : goal.returns-in-At
 returns-in-At c =
     let a = c.args in
-    dates_by (windows_in a.windows.now) a.round.now a.last a.date true true false false _ (last_so (goal.at.returns-in-At c).After-is_date-2) (date_so (goal.at.returns-in-At c).After-some_invalid) (dates_so (goal.at.returns-in-At c).After-some_inverted) (order_so (goal.at.returns-in-At c).After-first_outside)
+    dates_by (windows_in a.windows.now) a.round.now a.last a.date true true false false _ (last_so (goal.at.returns-in-At c).After-is_date-2)
+    (date_so (goal.at.returns-in-At c).After-some_invalid) (dates_so (goal.at.returns-in-At c).After-some_inverted)
+    (order_so (goal.at.returns-in-At c).After-first_outside)
     (sym c.first_outside.ensures ∙ c.in-At.is)
 
 pub returns-in-Nothing : goal.returns-in-Nothing
 returns-in-Nothing c =
     let a = c.args in
-    dates_by (windows_in a.windows.now) a.round.now a.last a.date true true false false _ (last_so (goal.at.returns-in-Nothing c).After-is_date-2) (date_so (goal.at.returns-in-Nothing c).After-some_invalid) (dates_so (goal.at.returns-in-Nothing c).After-some_inverted) (order_so (goal.at.returns-in-Nothing c).After-first_outside)
+    dates_by (windows_in a.windows.now) a.round.now a.last a.date true true false false _ (last_so (goal.at.returns-in-Nothing c).After-is_date-2)
+    (date_so (goal.at.returns-in-Nothing c).After-some_invalid) (dates_so (goal.at.returns-in-Nothing c).After-some_inverted)
+    (order_so (goal.at.returns-in-Nothing c).After-first_outside)
     (sym c.first_outside.ensures ∙ c.in-Nothing.is)

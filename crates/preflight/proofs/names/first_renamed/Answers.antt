@@ -28,7 +28,8 @@ loop-i-preserved c =
 pub returns : goal.returns
 returns c =
     let a = c.args in
-    sym (place_end (let a = c.args in renamed (name_given a.old.now) (name_given a.new.now) a.accepted.now) a.round.now c.loop-i.i c.loop-i-test.false) ∙ c.loop-i.invariant
+    sym (place_end (let a = c.args in renamed (name_given a.old.now) (name_given a.new.now) a.accepted.now) a.round.now c.loop-i.i c.loop-i-test.false)
+    ∙ c.loop-i.invariant
 
 pub loop-i-init : goal.loop-i-init
 loop-i-init c = refl

@@ -14,14 +14,14 @@ pub returns-then-other_has : goal.returns-then-other_has
 returns-then-other_has c =
     let a = c.args in
     sym (place_here (other_has (name_given a.new.now) a.name.now a.id) a.round.now c.loop-i.i c.loop-i-test.true
-    (sym c.other_has_lem.ensures ∙ c.if-other_has.true))
+    (sym c.other_has.ensures ∙ c.if-other_has.true))
     ∙ c.loop-i.invariant
 
 pub loop-i-preserved : goal.loop-i-preserved
 loop-i-preserved c =
     let a = c.args in
     place_on (other_has (name_given a.new.now) a.name.now a.id) a.round.now c.loop-i.i c.loop-i-test.true
-    (sym c.other_has_lem.ensures ∙ c.if-other_has.false)
+    (sym c.other_has.ensures ∙ c.if-other_has.false)
     ∙ c.loop-i.invariant
 
 pub returns : goal.returns

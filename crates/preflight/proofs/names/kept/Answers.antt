@@ -8,24 +8,24 @@ use Rattle.reader.specs.Naming.{place, naming, name_given}
 use Rattle.reader.specs.Cases.{naming_of}
 use Rattle.preflight.specs.Names.{kept_name}
 use Rattle.preflight.proofs.Given.{inside, given, none_given}
-use Rattle.preflight.proofs.names.kept.Goals.{In-Place-2}
+use Rattle.preflight.proofs.names.kept.Goals.{In-Place}
 use Rattle.preflight.proofs.names.kept.Goals as goal
 
-old_place : (c : In-Place-2) → let a = c.args in
+old_place : (c : In-Place) → let a = c.args in
     place c.in-Place.start c.in-Place.len ≡ naming a.old.now a.id
 old_place c = ap naming_of (sym c.in-Place.is) ∙ c.to_str.ensures
 
 pub overflow_add-start : goal.overflow_add-start
-overflow_add-start c = omega (arith, inside _ _ _ _ (old_place (goal.at.overflow_add-start c).In-Place-2))
+overflow_add-start c = omega (arith, inside _ _ _ _ (old_place (goal.at.overflow_add-start c).In-Place))
 
 pub slice_bounds-has_name-end : goal.slice_bounds-has_name-end
-slice_bounds-has_name-end c = omega (arith, inside _ _ _ _ (old_place (goal.at.slice_bounds-has_name-end c).In-Place-2))
+slice_bounds-has_name-end c = omega (arith, inside _ _ _ _ (old_place (goal.at.slice_bounds-has_name-end c).In-Place))
 
 pub returns-in-Place : goal.returns-in-Place
 returns-in-Place c =
     let a = c.args in
     c.has_name.ensures
-    ∙ ap (λ (x : Option (List _)). kept_name x (name_given a.new.now a.id)) (given a.old.now a.id _ _ (old_place (goal.at.returns-in-Place c).In-Place-2))
+    ∙ ap (λ (x : Option (List _)). kept_name x (name_given a.new.now a.id)) (given a.old.now a.id _ _ (old_place (goal.at.returns-in-Place c).In-Place))
 
 pub returns-in-Nothing : goal.returns-in-Nothing
 returns-in-Nothing c =

@@ -14,7 +14,8 @@ use Rattle.preflight.proofs.on_sheet.first_off.Goals as goal
 pub returns-then-off_sheet : goal.returns-then-off_sheet
 returns-then-off_sheet c =
     let a = c.args in
-    sym (place_here (let a = c.args in off_sheet (ids_in a.references.now) (ids_in a.walls.now) (ids_in a.retired.now)) a.round.now c.loop-i.i c.loop-i-test.true
+    sym (place_here (let a = c.args in off_sheet (ids_in a.references.now) (ids_in a.walls.now) (ids_in a.retired.now)) a.round.now c.loop-i.i
+    c.loop-i-test.true
     (sym c.off_sheet.ensures ∙ c.if-off_sheet.true))
     ∙ c.loop-i.invariant
 
@@ -28,7 +29,8 @@ loop-i-preserved c =
 pub returns : goal.returns
 returns c =
     let a = c.args in
-    sym (place_end (let a = c.args in off_sheet (ids_in a.references.now) (ids_in a.walls.now) (ids_in a.retired.now)) a.round.now c.loop-i.i c.loop-i-test.false) ∙ c.loop-i.invariant
+    sym (place_end (let a = c.args in off_sheet (ids_in a.references.now) (ids_in a.walls.now) (ids_in a.retired.now)) a.round.now c.loop-i.i
+    c.loop-i-test.false) ∙ c.loop-i.invariant
 
 pub loop-i-init : goal.loop-i-init
 loop-i-init c = refl

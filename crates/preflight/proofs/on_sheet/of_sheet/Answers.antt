@@ -6,10 +6,10 @@ use Rattle.reader.specs.Slices.{slice}
 use Rattle.sheet.specs.Cases.{read_of}
 use Rattle.sheet.specs.SheetReading.{read_sheet}
 use Rattle.preflight.proofs.Answers.{sheet_refused, sheet_whole}
-use Rattle.preflight.proofs.on_sheet.of_sheet.Goals.{In-Whole-2}
+use Rattle.preflight.proofs.on_sheet.of_sheet.Goals.{In-Whole}
 use Rattle.preflight.proofs.on_sheet.of_sheet.Goals as goal
 
-reads : (c : In-Whole-2) → value c.in-Whole.s ≡ read_sheet c.args.file.now
+reads : (c : In-Whole) → value c.in-Whole.s ≡ read_sheet c.args.file.now
 reads c = ap read_of (sym c.in-Whole.is) ∙ c.read.ensures
 
 pub returns-in-TooFew : goal.returns-in-TooFew
@@ -25,11 +25,11 @@ returns-in-LeftOver c =
 pub returns-in-At : goal.returns-in-At
 returns-in-At c =
     let a = c.args in
-    sheet_whole (slice a.file) a.round.now _ (reads (goal.at.returns-in-At c).In-Whole-2) _ _ _ _ c.section-references.ensures c.section-walls.ensures
+    sheet_whole (slice a.file) a.round.now _ (reads (goal.at.returns-in-At c).In-Whole) _ _ _ _ c.section-references.ensures c.section-walls.ensures
     c.section-retired.ensures (sym c.in-At.is ∙ c.first_off.ensures)
 
 pub returns-in-Nothing : goal.returns-in-Nothing
 returns-in-Nothing c =
     let a = c.args in
-    sheet_whole (slice a.file) a.round.now _ (reads (goal.at.returns-in-Nothing c).In-Whole-2) _ _ _ _ c.section-references.ensures c.section-walls.ensures
+    sheet_whole (slice a.file) a.round.now _ (reads (goal.at.returns-in-Nothing c).In-Whole) _ _ _ _ c.section-references.ensures c.section-walls.ensures
     c.section-retired.ensures (sym c.in-Nothing.is ∙ c.first_off.ensures)
