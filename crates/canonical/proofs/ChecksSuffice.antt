@@ -14,7 +14,7 @@ use Rattle.image.specs.Bytes.{word, cat}
 use Rattle.image.specs.Head.{table_at, bucket_number, back_size_at, back_offset_at}
 use Rattle.image.specs.Image.{Entry, Placed, head_size, entry_bytes, entry_size, placed, of_table, count, bucket_of, entries_before, table_offset, flag_word}
 use Rattle.image.specs.Image.{back_size, back_in, back_size_of, back_offset, entries_end, image_size, back_word}
-use Rattle.image.specs.Stored.{whole, between}
+use Rattle.image.specs.Stored.{between}
 use Rattle.image.specs.Tables.{table_of, Filled}
 use Rattle.image.specs.Tally.{tallied}
 use Rattle.image.specs.Zero.{has_zero}

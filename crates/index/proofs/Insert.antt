@@ -8,7 +8,6 @@ use lib.ListN.{length, get_or, set, length-set, length-map}
 use lib.Seq.{get_or-set_same, get_or-set_other}
 use Rattle.jhash.specs.NameHash.{hash_of}
 use Rattle.image.specs.Tables.{Bucket, empty, filled}
-use Rattle.image.specs.Bytes.{same}
 use Rattle.image.specs.Image.{Entry, head_size, entry_size, entries_size, placed, bucket_of}
 use Rattle.image.proofs.Sizes.{length_filled, placed_append, length_placed}
 use Rattle.image.proofs.AllOfList.{All}

@@ -9,7 +9,7 @@ use lib.ListN.{length, length-append, get_or}
 use Rattle.jhash.specs.NameHash.{hash_of}
 use Rattle.image.specs.declared.Mode.{Mode}
 use Rattle.image.specs.declared.Mode.TheVariants.{Twoway, Oneway}
-use Rattle.image.specs.Tables.{Bucket, empty, insert_all, filled}
+use Rattle.image.specs.Tables.{Bucket, insert_all, filled}
 use Rattle.image.specs.Image.{Entry, head_size, placed}
 use Rattle.image.proofs.EntryArea.{AllBytes}
 use Rattle.image.proofs.Bools.{false_not_true}
@@ -17,7 +17,7 @@ use Rattle.image.proofs.Buckets.{get_or_empties}
 use Rattle.writer.specs.declared.Repeats.{Repeats}
 use Rattle.writer.specs.State.{State, refuses_repeats, state_with, fresh}
 use Rattle.writer.specs.Put.{put_refusal, appended}
-use Rattle.writer.specs.Close.{recorded, after_close}
+use Rattle.writer.specs.Close.{recorded}
 use Rattle.writer.specs.declared.CQDBWriter.{CQDBWriter}
 use Rattle.writer.specs.declared.Repeats.TheVariants.{On}
 use Rattle.writer.proofs.Longer.{longer_accepted}

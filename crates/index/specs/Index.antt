@@ -1,6 +1,6 @@
 -- The index of the names that a buffer holds: slots in lent words, which a put probes where 02 (viii)'s put walks the
 -- earlier entries.
-use Rattle.std.specs.Prelude.{ℕ, ◌+◌, ◌*◌, ◌/◌, ◌≤◌, ◌<◌, ◌≡◌, Bool, true, cond, ◌&&◌, List, map, length, get_or, set}
+use Rattle.std.specs.Prelude.{ℕ, ◌+◌, ◌*◌, ◌/◌, ◌≤◌, ◌≡◌, Bool, true, cond, ◌&&◌, List, map, length, get_or, set}
 use Rattle.std.specs.Prelude.{eqb, ltb, leb}
 use Rattle.jhash.specs.NameHash.{hash_of}
 use Rattle.image.specs.Tables.{Bucket, start, probe_sequence, first_empty, Filled}

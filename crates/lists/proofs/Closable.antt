@@ -2,7 +2,7 @@
 use Prim.Native.Nat.{ℕ, ◌+◌, ◌-◌, ◌^◌, ◌≤◌, ◌<◌}
 use native.Mathlib.Omega.{arith}
 use mathlib.Core.Path.{◌≡◌, refl, sym, ap, ◌∙◌}
-use mathlib.Core.Bool.{Bool, true, false, cond, not, ◌&&◌}
+use mathlib.Core.Bool.{Bool, true, ◌&&◌}
 use mathlib.Core.List.{List, [], ◌∷◌, append-nil}
 use lib.ListN.{length, get_or, take, drop}
 use lib.Dec.{eqb}
@@ -18,8 +18,8 @@ use Rattle.image.proofs.Bools.{and_first, and_second}
 use Rattle.image.proofs.AllOfList.{All}
 use Rattle.image.proofs.Sizes.{back_in_twice}
 use Rattle.serialize.proofs.WrittenImage.{area_kept, stored_end}
-use Rattle.writer.specs.State.{State, fits, finished_size, too_large}
-use Rattle.writer.specs.Close.{entry_area, recorded, consistent, close_refusal}
+use Rattle.writer.specs.State.{State, finished_size}
+use Rattle.writer.specs.Close.{entry_area, recorded, close_refusal}
 use Rattle.writer.specs.State.{counts_agree}
 use Rattle.writer.proofs.Closes.{Accepted, accepted}
 use Rattle.writer.proofs.Fits.{Fitting, fitting, not_too_large}

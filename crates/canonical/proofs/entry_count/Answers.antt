@@ -2,7 +2,6 @@
 use mathlib.Core.Path.{sym, ap, ◌∙◌}
 use Rattle.reader.specs.Cases.{opened_of}
 use Rattle.canonical.specs.Canonical.{counted}
-use borrow.Author.Rules.{rules}
 use Rattle.canonical.proofs.entry_count.Goals.{After-open}
 use Rattle.canonical.proofs.entry_count.Goals as goal
 

@@ -3,7 +3,6 @@ use native.Mathlib.Omega.{arith}
 use mathlib.Core.Path.{sym, ap, ◌∙◌}
 use Rattle.reader.specs.Cases.{opened_of}
 use Rattle.canonical.proofs.Decision.{never_opened}
-use borrow.Author.Rules.{rules}
 use Rattle.canonical.proofs.is_canonical.Goals.{After-open}
 use Rattle.canonical.proofs.is_canonical.Goals as goal
 

@@ -1,13 +1,11 @@
 -- `changes::differs` meets its contract. By the namings of the id in the two images. Assumes nothing.
 use Prim.Native.Nat.{◌+◌, ◌≤◌}
 use native.Mathlib.Omega.{arith}
-use mathlib.Core.Path.{◌≡◌, sym, ap, ◌∙◌}
+use mathlib.Core.Path.{sym, ap, ◌∙◌}
 use lib.ListN.{length}
-use Rattle.reader.specs.Naming.{place, unnamed, naming}
 use Rattle.reader.specs.Cases.{naming_of}
 use Rattle.reader.proofs.Namings.{named}
 use Rattle.changes.proofs.Namings.{both_named, name_gone, name_added, neither_named}
-use borrow.Author.Rules.{rules}
 use Rattle.changes.proofs.differs.Goals.{In-Place-to_str}
 use Rattle.changes.proofs.differs.Goals as goal
 

@@ -1,13 +1,11 @@
 -- `changes::moved` meets its contract. By the naming of the id in the old image. Assumes nothing.
 use Prim.Native.Nat.{◌+◌, ◌≤◌}
 use native.Mathlib.Omega.{arith}
-use mathlib.Core.Path.{◌≡◌, sym, ap, ◌∙◌}
+use mathlib.Core.Path.{sym, ap, ◌∙◌}
 use lib.ListN.{length}
-use Rattle.reader.specs.Naming.{place, naming}
 use Rattle.reader.specs.Cases.{naming_of}
 use Rattle.reader.proofs.Namings.{named}
 use Rattle.changes.proofs.Moves.{moved_named, moved_unnamed}
-use borrow.Author.Rules.{rules}
 use Rattle.changes.proofs.moved.Goals.{In-Place}
 use Rattle.changes.proofs.moved.Goals as goal
 

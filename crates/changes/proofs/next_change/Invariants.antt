@@ -1,10 +1,7 @@
 -- `changes::next_change` meets its contract. The loop's invariant: the first change among the ids that are left is the first of all. Assumes nothing.
 use Prim.Native.Nat.{◌-◌}
-use native.Mathlib.Omega.{arith}
-use mathlib.Core.Path.{◌≡◌, sym, ◌∙◌}
+use mathlib.Core.Path.{◌≡◌}
 use Rattle.changes.specs.Changes.{first_among, first_change}
-use Rattle.changes.proofs.Search.{ends_here, goes_on, ends_without, starts, answers_change, answers_none}
-use borrow.Author.Rules.{rules}
 use Rattle.changes.proofs.next_change.Given as goal
 
 abbrev pub invariant-loop-id : goal.invariant-loop-id

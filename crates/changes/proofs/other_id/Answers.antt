@@ -1,10 +1,7 @@
 -- `changes::other_id` meets its contract. By the cases of the lookup. Assumes nothing.
-use mathlib.Core.Path.{◌≡◌, sym, ap, ◌∙◌}
-use Rattle.reader.specs.declared.ToId.TheVariants.{Found}
-use Rattle.reader.specs.Lookup.{lookup}
+use mathlib.Core.Path.{sym, ap, ◌∙◌}
 use Rattle.reader.specs.Cases.{lookup_of}
 use Rattle.changes.proofs.Moves.{same_id, another_id, no_id}
-use borrow.Author.Rules.{rules}
 use Rattle.changes.proofs.other_id.Goals as goal
 
 pub returns-then-f-id : goal.returns-then-f-id

@@ -1,6 +1,5 @@
 -- `changes::upper` meets its contract. Assumes nothing.
 use Rattle.changes.proofs.Namings.{second_larger, first_larger}
-use borrow.Author.Rules.{rules}
 use Rattle.changes.proofs.upper.Goals as goal
 
 pub returns-then-a-b : goal.returns-then-a-b

@@ -1,5 +1,5 @@
 -- `index::decide` meets its contract. Assumes nothing.
-use Prim.Native.Nat.{ℕ, ◌<◌, ◌≤◌}
+use Prim.Native.Nat.{ℕ, ◌≤◌}
 use native.Mathlib.Omega.{arith}
 use mathlib.Core.Path.{◌≡◌, refl, sym, ap, ap₂, subst, ◌∙◌}
 use mathlib.Core.Bool.{Bool, cond}
@@ -18,7 +18,6 @@ use Rattle.index.specs.Refusals.{late_refusal, early_of, late_of, probed_for, re
 use Rattle.index.specs.Steps.Decided.{WithoutSlot, Decided}
 use Rattle.index.proofs.PutChecks.{EarlyPassed, early_passed, late_passed, append_pre, slots_early}
 use Rattle.index.proofs.PutChecks.{search_duplicate, search_late, search_slot, search_end}
-use borrow.Author.Rules.{rules}
 use Rattle.index.proofs.decide.Goals.{After-late_refusal-late, After-search-k, Else-early-ne0, Else-late-ne0, Else-m-k}
 use Rattle.index.proofs.decide.Goals as goal
 

@@ -1,11 +1,5 @@
 -- `index::fill` meets its contract. The loop's invariant: the slots are those of the entries passed. Assumes nothing.
-use Prim.Native.Nat.{ℕ, ◌+◌, ◌-◌}
-use native.Mathlib.Omega.{arith}
-use mathlib.Core.Path.{sym, subst}
-use Rattle.jhash.proofs.Outcomes.{result_refused, result_name_hash}
-use Rattle.image.proofs.Between.{entry_room}
-use Rattle.index.proofs.MakeIndex.{Filling, EntryRead, filling_start, not_broken, empty_slot, filling_turn, filling_end}
-use borrow.Author.Rules.{rules}
+use Rattle.index.proofs.MakeIndex.{Filling}
 use Rattle.index.proofs.fill.Given as goal
 
 abbrev pub invariant-loop-left : goal.invariant-loop-left

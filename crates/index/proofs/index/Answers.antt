@@ -1,10 +1,9 @@
 -- `index::index` meets its contract. Assumes nothing.
 use native.Mathlib.Omega.{arith}
 use mathlib.Core.Path.{◌≡◌, sym, ◌∙◌}
-use Rattle.writer.specs.State.{State, state_with}
+use Rattle.writer.specs.State.{state_with}
 use Rattle.writer.specs.Close.{close_refusal}
 use Rattle.index.proofs.MakeIndex.{index_refused, index_full, index_made, fillable}
-use borrow.Author.Rules.{rules}
 use Rattle.index.proofs.index.Goals.{Else-refusal-ne0}
 use Rattle.index.proofs.index.Goals as goal
 

@@ -1,7 +1,6 @@
 -- `index::without_slot` meets its contract. Assumes nothing.
 use native.Mathlib.Omega.{arith}
-use mathlib.Core.Path.{refl, sym, ◌∙◌}
-use borrow.Author.Rules.{rules}
+use mathlib.Core.Path.{refl}
 use Rattle.index.proofs.without_slot.Goals as goal
 
 pub returns-then-sought : goal.returns-then-sought

@@ -3,7 +3,6 @@ use mathlib.Core.Path.{ap, ◌∙◌}
 use Rattle.writer.specs.State.{begun_of}
 use Rattle.load.specs.Load.{put_from, load_put}
 use Rattle.load.proofs.BeginAnswers.{refused_load, begun_fresh, closed_load}
-use borrow.Author.Rules.{rules}
 use Rattle.load.proofs.load.Goals as goal
 
 pub returns-in-Refused : goal.returns-in-Refused

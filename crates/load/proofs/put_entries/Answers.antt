@@ -1,16 +1,13 @@
 -- `load::put_entries` meets its contract: what is left to be put makes of what was put what the whole load leaves. Assumes nothing.
-use Prim.Native.Nat.{ℕ, ◌-◌, ◌≤◌}
+use Prim.Native.Nat.{ℕ}
 use native.Mathlib.Omega.{arith}
 use native.Mathlib.Numerals.{add-one}
 use mathlib.Core.Path.{◌≡◌, refl, sym, ap, ◌∙◌}
-use lib.ListN.{length}
 use borrow.Author.Rules.{rules}
-use Rattle.writer.specs.State.{State, state_with}
+use Rattle.writer.specs.State.{state_with}
 use Rattle.writer.specs.Put.{entry_of}
 use Rattle.load.specs.States.{next_state, state_after, load_entry}
-use Rattle.load.specs.Load.{put_from}
 use Rattle.load.proofs.PutTurns.{entry_is, turn_goes_on, turn_ends, all_put}
-use Rattle.load.proofs.put_entries.Invariants.{Inv}
 use Rattle.load.proofs.put_entries.Goals.{After-state_name-name}
 use Rattle.load.proofs.put_entries.Goals as goal
 

@@ -4,7 +4,6 @@ use Rattle.reader.specs.Lookup.{Lookup}
 use Rattle.reader.specs.Cases.{lookup_of}
 use Rattle.lookup_laws.specs.Answer.{found_id}
 use Rattle.one_to_one.specs.OneToOne.{is_id}
-use borrow.Author.Rules.{rules}
 use Rattle.one_to_one.proofs.finds_id.Goals as goal
 
 pub returns-in-Found : goal.returns-in-Found

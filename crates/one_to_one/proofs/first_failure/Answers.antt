@@ -3,11 +3,9 @@ use Prim.Native.Nat.{ℕ}
 use native.Mathlib.Omega.{arith}
 use mathlib.Core.Path.{refl, ap}
 use lib.Dec.{eqb}
-use borrow.Author.Tests.{not-true, not-false}
 use Rattle.image.specs.Steps.Contracts.{NameAtPre}
-use Rattle.canonical.proofs.EntriesAhead.{Ahead, turn, inside}
-use Rattle.one_to_one.proofs.Walking.{First, Step, walk_starts, walk_ends, other_id, other_name, walk_on}
-use borrow.Author.Rules.{rules}
+use Rattle.canonical.proofs.EntriesAhead.{turn, inside}
+use Rattle.one_to_one.proofs.Walking.{Step, walk_starts, walk_ends, other_id, other_name, walk_on}
 use Rattle.one_to_one.proofs.first_failure.Goals.{After-finds_id}
 use Rattle.one_to_one.proofs.first_failure.Goals as goal
 

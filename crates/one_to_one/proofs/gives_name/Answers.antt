@@ -4,14 +4,12 @@ use native.Mathlib.Omega.{arith}
 use mathlib.Core.Path.{◌≡◌, sym, ap, ap₂, ◌∙◌}
 use mathlib.Core.Bool.{Bool, cond}
 use lib.ListN.{length, take, drop}
-use borrow.Author.Tests.{not-true, not-false}
 use Rattle.image.specs.Bytes.{same}
 use Rattle.image.specs.declared.Mode.TheVariants.{Twoway, Oneway}
 use Rattle.reader.specs.Naming.{Naming, bytes_at, name_given}
 use Rattle.reader.specs.Cases.{naming_of}
 use Rattle.reader.proofs.Namings.{named}
 use Rattle.one_to_one.specs.OneToOne.{is_name, asked}
-use borrow.Author.Rules.{rules}
 use Rattle.one_to_one.proofs.gives_name.Goals.{In-Place}
 use Rattle.one_to_one.proofs.gives_name.Goals as goal
 

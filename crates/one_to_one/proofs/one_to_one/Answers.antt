@@ -1,10 +1,8 @@
 -- `one_to_one::one_to_one` meets its contract. Assumes nothing.
 use mathlib.Core.Path.{◌≡◌, sym, ◌∙◌}
 use mathlib.Core.Bool.{true}
-use borrow.Author.Tests.{not-true, not-false}
 use Rattle.canonical.specs.Canonical.{canonical}
 use Rattle.one_to_one.proofs.Answers.{refused, answered}
-use borrow.Author.Rules.{rules}
 use Rattle.one_to_one.proofs.one_to_one.Goals.{Else-not-is_canonical}
 use Rattle.one_to_one.proofs.one_to_one.Goals as goal
 

@@ -2,7 +2,6 @@
 use Prim.Native.Nat.{◌<◌}
 use native.Mathlib.Omega.{arith}
 use mathlib.Core.Path.{refl}
-use borrow.Author.Rules.{rules}
 use Rattle.search_length.proofs.Answers.{Asked, refused, some_entries, accepted, averaged}
 use Rattle.search_length.proofs.average.Goals.{After-first_refusal-refusal, Else-refusal-ne0}
 use Rattle.search_length.proofs.average.Goals as goal

@@ -1,5 +1,4 @@
 -- `search_length::first_refusal` meets its contract. Assumes nothing.
-use borrow.Author.Rules.{rules}
 use borrow.Author.Tests.{eq-eqb, ne_eqb}
 use Rattle.search_length.proofs.first_refusal.Goals as goal
 

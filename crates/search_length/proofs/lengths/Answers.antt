@@ -1,7 +1,6 @@
 -- `search_length::lengths` meets its contract. Assumes nothing.
 use Rattle.search_length.proofs.Answers.{Asked, refused_lengths, accepted, filled_lengths}
 use mathlib.Core.Path.{refl}
-use borrow.Author.Rules.{rules}
 use Rattle.search_length.proofs.lengths.Goals.{After-first_refusal-refusal}
 use Rattle.search_length.proofs.lengths.Goals as goal
 

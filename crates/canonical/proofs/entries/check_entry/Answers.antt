@@ -1,5 +1,4 @@
 -- `canonical::entries::check_entry` meets its contract. Assumes nothing.
-use borrow.Author.Rules.{rules}
 use Rattle.canonical.proofs.EntryBuckets.{name_zero, name_bucket}
 use Rattle.canonical.proofs.entries.check_entry.Goals as goal
 

@@ -1,17 +1,14 @@
 -- `canonical::tables::check_rows` meets its contract. Assumes nothing.
 use borrow.Author.Rules.{rules}
-use borrow.Author.Tests.{not-true, not-false}
 use native.Mathlib.Omega.{arith}
-use Prim.Native.Nat.{ℕ, ◌+◌, ◌*◌, ◌-◌, ◌/◌, ◌≤◌}
+use Prim.Native.Nat.{ℕ, ◌+◌, ◌*◌, ◌/◌, ◌≤◌}
 use mathlib.Core.Path.{◌≡◌, sym, ap, ◌∙◌}
 use mathlib.Core.Bool.{cond}
-use mathlib.Core.List.{List}
 use lib.ListN.{length}
 use lib.Dec.{eqb}
 use Rattle.image.specs.Head.{table_at, bucket_number}
 use Rattle.canonical.specs.Steps.Checks.{row_count, row_ok, table_ok}
-use Rattle.canonical.specs.Steps.Contracts.{CheckRowsPre}
-use Rattle.canonical.proofs.TableLoops.{Rows, rows_start, table_buckets, table_offset, row_room, row_table, row_next, all_passed}
+use Rattle.canonical.proofs.TableLoops.{rows_start, table_buckets, table_offset, row_room, row_table, row_next, all_passed}
 use Rattle.canonical.proofs.tables.check_rows.Goals.{After-check_table, After-offset_or_zero, After-table_buckets-number, Else-number-c}
 use Rattle.canonical.proofs.tables.check_rows.Goals.{Else-table_offset-offset_or_zero}
 use Rattle.canonical.proofs.tables.check_rows.Goals as goal

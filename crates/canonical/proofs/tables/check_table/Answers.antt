@@ -1,13 +1,10 @@
 -- `canonical::tables::check_table` meets its contract. Assumes nothing.
 use native.Mathlib.Omega.{arith}
-use borrow.Author.Rules.{rules}
-use Prim.Native.Nat.{ℕ, ◌+◌, ◌*◌, ◌-◌}
-use mathlib.Core.Path.{◌≡◌, refl, ap, ◌∙◌}
-use mathlib.Core.Bool.{Bool, ◌&&◌}
-use mathlib.Core.List.{List}
+use Prim.Native.Nat.{◌+◌, ◌*◌}
+use mathlib.Core.Path.{refl, ap, ◌∙◌}
+use mathlib.Core.Bool.{◌&&◌}
 use Rattle.canonical.specs.Steps.HiddenBuckets.{bit}
 use Rattle.canonical.proofs.TableLoops.{Buckets, buckets_start, buckets_next, buckets_end}
-use Rattle.canonical.proofs.tables.check_table.Invariants.{Checking}
 use Rattle.canonical.proofs.tables.check_table.Goals.{After-used_bit-used}
 use Rattle.canonical.proofs.tables.check_table.Goals as goal
 

@@ -1,12 +1,9 @@
 -- `canonical::tables::check_table` meets its contract. Assumes nothing.
-use native.Mathlib.Omega.{arith}
-use borrow.Author.Rules.{rules}
-use Prim.Native.Nat.{ℕ, ◌+◌, ◌*◌, ◌-◌}
-use mathlib.Core.Path.{◌≡◌, refl, ap, ◌∙◌}
-use mathlib.Core.Bool.{Bool, ◌&&◌}
+use Prim.Native.Nat.{ℕ, ◌*◌, ◌-◌}
+use mathlib.Core.Path.{◌≡◌}
+use mathlib.Core.Bool.{Bool}
 use mathlib.Core.List.{List}
-use Rattle.canonical.specs.Steps.HiddenBuckets.{bit}
-use Rattle.canonical.proofs.TableLoops.{Buckets, buckets_start, buckets_next, buckets_end}
+use Rattle.canonical.proofs.TableLoops.{Buckets}
 use Rattle.canonical.proofs.tables.check_table.Given as goal
 
 pub record Checking (image : List ℕ) (o c n : ℕ) (clean : Bool) (used k : ℕ) : Type 0 where

@@ -1,5 +1,4 @@
 -- `canonical::tables::clean_bucket` meets its contract. Assumes nothing.
-use borrow.Author.Rules.{rules}
 use Prim.Native.Nat.{ℕ}
 use mathlib.Core.Path.{ap₂}
 use mathlib.Core.Bool.{not, ◌||◌}

@@ -1,12 +1,9 @@
 -- `canonical::tables::count_used` meets its contract. Assumes nothing.
-use borrow.Author.Rules.{rules}
 use native.Mathlib.Omega.{arith}
-use Prim.Native.Nat.{ℕ, ◌+◌, ◌-◌, ◌≤◌}
+use Prim.Native.Nat.{◌+◌}
 use mathlib.Core.Path.{ap, ◌∙◌}
-use mathlib.Core.List.{List}
 use Rattle.canonical.specs.Steps.HiddenBuckets.{bit}
-use Rattle.canonical.specs.Steps.InPlace.{back_word_at}
-use Rattle.canonical.proofs.TableLoops.{Used, used_start, used_next, used_end}
+use Rattle.canonical.proofs.TableLoops.{used_start, used_next, used_end}
 use Rattle.canonical.proofs.tables.count_used.Invariants.{Counting}
 use Rattle.canonical.proofs.tables.count_used.Goals.{After-used_bit-used}
 use Rattle.canonical.proofs.tables.count_used.Goals as goal

@@ -1,12 +1,8 @@
 -- `canonical::tables::count_used` meets its contract. Assumes nothing.
-use borrow.Author.Rules.{rules}
-use native.Mathlib.Omega.{arith}
-use Prim.Native.Nat.{ℕ, ◌+◌, ◌-◌, ◌≤◌}
-use mathlib.Core.Path.{ap, ◌∙◌}
+use Prim.Native.Nat.{ℕ, ◌-◌, ◌≤◌}
 use mathlib.Core.List.{List}
-use Rattle.canonical.specs.Steps.HiddenBuckets.{bit}
 use Rattle.canonical.specs.Steps.InPlace.{back_word_at}
-use Rattle.canonical.proofs.TableLoops.{Used, used_start, used_next, used_end}
+use Rattle.canonical.proofs.TableLoops.{Used}
 use Rattle.canonical.proofs.tables.count_used.Given as goal
 
 pub record Counting (img : List ℕ) (o n used k : ℕ) : Type 0 where

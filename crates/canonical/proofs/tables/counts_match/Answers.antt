@@ -1,18 +1,13 @@
 -- `canonical::tables::counts_match` meets its contract. Assumes nothing.
-use borrow.Author.Rules.{rules}
 use native.Mathlib.Omega.{arith}
 use borrow.Author.Tests.{eq-eqb, ne_eqb}
-use Prim.Native.Nat.{ℕ, ◌*◌, ◌-◌, ◌≤◌}
-use mathlib.Core.Path.{◌≡◌, refl, sym, ◌∙◌}
+use Prim.Native.Nat.{ℕ, ◌*◌}
+use mathlib.Core.Path.{refl, sym, ◌∙◌}
 use mathlib.Core.Bool.{Bool}
-use mathlib.Core.List.{List}
 use lib.ListN.{get_or}
 use lib.Dec.{eqb}
-use Rattle.image.specs.Bytes.{all}
 use Rattle.image.specs.Head.{bucket_number}
-use Rattle.canonical.specs.Steps.Checks.{counts_match}
 use Rattle.canonical.proofs.TableLoops.{all_fail, all_pass, all_passed}
-use Rattle.canonical.proofs.tables.counts_match.Invariants.{Counts}
 use Rattle.canonical.proofs.tables.counts_match.Goals.{At-loop-t}
 use Rattle.canonical.proofs.tables.counts_match.Goals as goal
 

@@ -1,17 +1,12 @@
 -- `canonical::tables::counts_match` meets its contract. Assumes nothing.
-use borrow.Author.Rules.{rules}
-use native.Mathlib.Omega.{arith}
-use borrow.Author.Tests.{eq-eqb, ne_eqb}
 use Prim.Native.Nat.{ℕ, ◌*◌, ◌-◌, ◌≤◌}
-use mathlib.Core.Path.{◌≡◌, refl, sym, ◌∙◌}
-use mathlib.Core.Bool.{Bool}
+use mathlib.Core.Path.{◌≡◌}
 use mathlib.Core.List.{List}
 use lib.ListN.{get_or}
 use lib.Dec.{eqb}
 use Rattle.image.specs.Bytes.{all}
 use Rattle.image.specs.Head.{bucket_number}
 use Rattle.canonical.specs.Steps.Checks.{counts_match}
-use Rattle.canonical.proofs.TableLoops.{all_fail, all_pass, all_passed}
 use Rattle.canonical.proofs.tables.counts_match.Given as goal
 
 -- what is to be found of the counts from t on

@@ -1,9 +1,5 @@
 -- `index::slots::first_empty_slot` meets its contract. The loop's invariant: the rest of the probe sequence gives the result of the whole. Assumes nothing.
-use native.Mathlib.Omega.{arith}
-use mathlib.Core.Path.{refl, sym, subst, ◌∙◌}
-use borrow.Author.Rules.{rules}
-use Rattle.index.specs.Index.{slot_count}
-use Rattle.index.proofs.Probing.{never, Rest, rest_start, probe_none, rest_end, rest_empty, rest_next}
+use Rattle.index.proofs.Probing.{never, Rest}
 use Rattle.index.proofs.slots.first_empty_slot.Given as goal
 
 abbrev pub invariant-loop-left : goal.invariant-loop-left

@@ -5,7 +5,6 @@ use Rattle.reader.specs.Lookup as spec
 use Rattle.reader.specs.declared.Probe.{Probe}
 use Rattle.reader.specs.declared.Probe.TheVariants.{Pass, Ends, Hit}
 use Rattle.index.specs.Probe.{is_hit}
-use borrow.Author.Rules.{rules}
 use Rattle.index.proofs.slots.has_name.Goals as goal
 
 -- an entry that is seen as x: a hit or not

@@ -7,7 +7,6 @@ use Rattle.index.proofs.slots.probe.Goals.{then-slot_hash-h+else-has_name, else-
 use Rattle.index.specs.Index.{slot_count, slot_at}
 use Rattle.index.specs.Probe.{has_name_at}
 use Rattle.index.proofs.Probing.{Rest, rest_start, probe_none, rest_end, rest_empty, rest_match, rest_next}
-use borrow.Author.Rules.{rules}
 use Rattle.index.proofs.slots.probe.Goals as goal
 
 -- what was asked of the offset a holds of the offset in the slot, b

@@ -1,13 +1,6 @@
 -- `index::slots::probe` meets its contract. The loop's invariant: the rest of the probe sequence gives the result of the whole. Assumes nothing.
-use Prim.Native.Nat.{ℕ}
-use native.Mathlib.Omega.{arith}
-use mathlib.Core.Path.{◌≡◌, sym, ap, subst, ◌∙◌}
-use mathlib.Core.Bool.{Bool, false}
-use mathlib.Core.Logic.{⊎_elim}
-use Rattle.index.specs.Index.{slot_count, slot_at}
 use Rattle.index.specs.Probe.{has_name_at}
-use Rattle.index.proofs.Probing.{Rest, rest_start, probe_none, rest_end, rest_empty, rest_match, rest_next}
-use borrow.Author.Rules.{rules}
+use Rattle.index.proofs.Probing.{Rest}
 use Rattle.index.proofs.slots.probe.Given as goal
 
 abbrev pub invariant-loop-left : goal.invariant-loop-left

@@ -2,7 +2,6 @@
 use Prim.Native.Nat.{ℕ}
 use mathlib.Core.Path.{sym, ap, ◌∙◌}
 use mathlib.Core.Bool.{Bool, cond}
-use borrow.Author.Rules.{rules}
 use Rattle.index.specs.Index.{slot_count}
 use Rattle.index.specs.Probe.{has_name_at, probe_slots}
 use Rattle.index.proofs.slots.search.Goals.{Start}

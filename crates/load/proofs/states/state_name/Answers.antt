@@ -1,6 +1,5 @@
 -- `load::states::state_name` meets its contract. Assumes nothing.
 use Rattle.load.specs.States.{state_name}
-use borrow.Author.Rules.{rules}
 use Rattle.load.proofs.states.state_name.Goals as goal
 
 pub returns : goal.returns

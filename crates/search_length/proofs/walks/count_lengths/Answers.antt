@@ -1,15 +1,12 @@
 -- `search_length::walks::count_lengths` meets its contract. Assumes nothing.
 use native.Mathlib.Omega.{arith}
-use borrow.Author.Rules.{rules}
 use Prim.Native.Nat.{ℕ}
 use mathlib.Core.Path.{refl, ap, ◌∙◌}
-use mathlib.Core.List.{List}
-use Rattle.image.specs.Image.{Entry}
 use Rattle.image.specs.Tally.{one_more}
 use Rattle.reader.specs.Cases.{reads}
 use Rattle.reader.specs.Lookup.{lookup}
-use Rattle.canonical.proofs.EntriesAhead.{Ahead, Turn, turn, ahead_starts, ahead_ends, inside, name_is, ahead_next}
-use Rattle.search_length.proofs.Histogram.{Counting, counting_starts, counting_next, counting_ends}
+use Rattle.canonical.proofs.EntriesAhead.{Turn, turn, ahead_starts, ahead_ends, inside, name_is, ahead_next}
+use Rattle.search_length.proofs.Histogram.{counting_starts, counting_next, counting_ends}
 use Rattle.search_length.proofs.walks.count_lengths.Invariants.{Adding}
 use Rattle.search_length.proofs.walks.count_lengths.Goals.{In-loop-left}
 use Rattle.search_length.proofs.walks.count_lengths.Goals as goal

@@ -1,6 +1,5 @@
 -- `search_length::walks::raise_at` meets its contract. Assumes nothing.
 use mathlib.Core.Path.{refl}
-use borrow.Author.Rules.{rules}
 use Rattle.search_length.proofs.walks.raise_at.Goals as goal
 
 pub returns : goal.returns
