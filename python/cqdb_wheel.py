@@ -76,7 +76,7 @@ def _newer_source() -> Optional[pathlib.Path]:
     """A source that is newer than the archive, the newest one; every source is where there is no archive."""
     folders = [folder for name in ("src", "specs", "proofs") for folder in ROOT.glob(f"crates/*/{name}")]
     sources = [file for folder in folders for file in folder.rglob("*") if file.is_file()]
-    newest = max(sources + [ROOT / name for name in ("KIT", "crates.txt", "make-archive")], key=_changed)
+    newest = max(sources + [ROOT / name for name in ("KIT", "crates.txt", "make-archive", "packaging/proved.sh")], key=_changed)
     return newest.relative_to(ROOT) if _changed(newest) > _changed(ARCHIVE) else None
 
 

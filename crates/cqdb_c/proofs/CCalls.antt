@@ -137,7 +137,8 @@ unfolding left_by_close after_close closed
 close_keeps h = both_kept (known_in h) refl
   where
     kept : known_in h ≡ true → (b : Bool) →
-        ((c_state_of (cond b (closed (state_in h)) (state_in h))).writer ≡ h.writer) × ((c_state_of (cond b (closed (state_in h)) (state_in h))).counts ≡ h.counts)
+        ((c_state_of (cond b (closed (state_in h)) (state_in h))).writer ≡ h.writer)
+        × ((c_state_of (cond b (closed (state_in h)) (state_in h))).counts ≡ h.counts)
     kept fine true = (ap (λ (x : CState). x.writer) (back_and_forth h fine), refl)
     kept fine false = (ap (λ (x : CState). x.writer) (back_and_forth h fine), refl)
 

@@ -10,13 +10,17 @@ use borrow.Author.Rules.{rules}
 use Rattle.index_c.proofs.cqdb_index_parts.Goals.{After-valid_numbers}
 use Rattle.index_c.proofs.cqdb_index_parts.Goals as goal
 
-known_is : (k : After-valid_numbers) {b : Bool} → k.valid_numbers.result ≡ b → known_in (let a = k.args in lent_state a.numbers.now a.sizes.now a.counts.now a.buf.now) ≡ b
+known_is : (k : After-valid_numbers) {b : Bool} → k.valid_numbers.result ≡ b
+    → known_in (let a = k.args in lent_state a.numbers.now a.sizes.now a.counts.now a.buf.now) ≡ b
 known_is k e = sym (k.valid_numbers.ensures ∙ ap (λ (x : Record). valid_numbers x.mode x.repeats) k.record_in-w.ensures) ∙ e
 
 pub returns-then-not-valid_numbers : goal.returns-then-not-valid_numbers
-returns-then-not-valid_numbers c = index_unknown (let a = c.args in lent_state a.numbers.now a.sizes.now a.counts.now a.buf.now) _ (known_is (goal.at.returns-then-not-valid_numbers c).After-valid_numbers c.if-not-valid_numbers.true)
+returns-then-not-valid_numbers c =
+    index_unknown (let a = c.args in lent_state a.numbers.now a.sizes.now a.counts.now a.buf.now) _
+    (known_is (goal.at.returns-then-not-valid_numbers c).After-valid_numbers c.if-not-valid_numbers.true)
 
 pub returns : goal.returns
 returns c =
-    index_known (let a = c.args in lent_state a.numbers.now a.sizes.now a.counts.now a.buf.now) (known_is (goal.at.returns c).After-valid_numbers c.if-not-valid_numbers.false) (c.Writer-of.ensures ∙ ap writer_of c.record_in-w.ensures)
+    index_known (let a = c.args in lent_state a.numbers.now a.sizes.now a.counts.now a.buf.now)
+    (known_is (goal.at.returns c).After-valid_numbers c.if-not-valid_numbers.false) (c.writer_of.ensures ∙ ap writer_of c.record_in-w.ensures)
     c.index.ensures

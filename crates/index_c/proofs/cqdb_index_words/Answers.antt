@@ -10,9 +10,11 @@ use Rattle.index_c.proofs.cqdb_index_words.Goals as goal
 pub returns-then-names-gt4611686018427387903 : goal.returns-then-names-gt4611686018427387903
 returns-then-names-gt4611686018427387903 c =
     let n = c.args.names in
-    sym (ap (λ (t : Bool). cond {A = ℕ} t 18446744073709551615 (4 * n)) (lt-ltb 18446744073709551615 (4 * n) (omega (arith, c.if-names-gt4611686018427387903.true))))
+    sym (ap (λ (t : Bool). cond {A = ℕ} t 18446744073709551615 (4 * n))
+    (lt-ltb 18446744073709551615 (4 * n) (omega (arith, c.if-names-gt4611686018427387903.true))))
 
 pub returns : goal.returns
 returns c =
     let n = c.args.names in
-    sym (ap (λ (t : Bool). cond {A = ℕ} t 18446744073709551615 (4 * n)) (le-ltb 18446744073709551615 (4 * n) (omega (arith, c.if-names-gt4611686018427387903.false))))
+    sym (ap (λ (t : Bool). cond {A = ℕ} t 18446744073709551615 (4 * n))
+    (le-ltb 18446744073709551615 (4 * n) (omega (arith, c.if-names-gt4611686018427387903.false))))

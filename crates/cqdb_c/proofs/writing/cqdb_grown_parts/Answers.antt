@@ -12,21 +12,25 @@ use borrow.Author.Rules.{rules}
 use Rattle.cqdb_c.proofs.writing.cqdb_grown_parts.Goals.{After-valid_numbers}
 use Rattle.cqdb_c.proofs.writing.cqdb_grown_parts.Goals as goal
 
-known_is : (k : After-valid_numbers) {b : Bool} → k.valid_numbers.result ≡ b → valid_numbers (let a = k.args in record_in a.numbers.now a.sizes.now).mode (let a = k.args in record_in a.numbers.now a.sizes.now).repeats ≡ b
+known_is : (k : After-valid_numbers) {b : Bool} → k.valid_numbers.result ≡ b
+    → valid_numbers (let a = k.args in record_in a.numbers.now a.sizes.now).mode (let a = k.args in record_in a.numbers.now a.sizes.now).repeats ≡ b
 known_is k e = sym (k.valid_numbers.ensures ∙ ap (λ (x : Record). valid_numbers x.mode x.repeats) k.record_in-w.ensures) ∙ e
 
 pub returns-then-not-valid_numbers : goal.returns-then-not-valid_numbers
 returns-then-not-valid_numbers c =
-    let same = grown_unknown (let a = c.args in record_in a.numbers.now a.sizes.now) c.args.longer (known_is (goal.at.returns-then-not-valid_numbers c).After-valid_numbers c.if-not-valid_numbers.true) in
-    (same.0, λ two. same.1)
+    let same =
+    grown_unknown (let a = c.args in record_in a.numbers.now a.sizes.now) c.args.longer
+    (known_is (goal.at.returns-then-not-valid_numbers c).After-valid_numbers c.if-not-valid_numbers.true) in
+    record { answer = same.0; leaves = λ two. same.1 }
 
 pub returns : goal.returns
 returns c =
     let done = c.grown-done in
     let a = c.args in
     let fine = known_is (goal.at.returns c).After-valid_numbers c.if-not-valid_numbers.false in
-    let is = c.Writer-of.ensures ∙ ap writer_of c.record_in-w.ensures in (
-      grown_answered (let a = c.args in record_in a.numbers.now a.sizes.now) a.longer fine is done.ensures,
-      λ two. grown_stored (let a = c.args in record_in a.numbers.now a.sizes.now) a.longer fine is done.ensures
-          (length_stored a.numbers.now a.sizes.now done.result.writer.length two),
-    )
+    let is = c.writer_of.ensures ∙ ap writer_of c.record_in-w.ensures in
+    record {
+      answer = grown_answered (let a = c.args in record_in a.numbers.now a.sizes.now) a.longer fine is (done.ensures.answer, done.ensures.leaves);
+      leaves = λ two. grown_stored (let a = c.args in record_in a.numbers.now a.sizes.now) a.longer fine is (done.ensures.answer, done.ensures.leaves)
+          (length_stored a.numbers.now a.sizes.now done.result.writer.length two);
+    }

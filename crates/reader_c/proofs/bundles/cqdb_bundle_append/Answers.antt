@@ -2,13 +2,18 @@
 use Rattle.bundle.specs.Cases.{appended_of}
 use Rattle.reader_c.specs.Bundle.{append_answer}
 use Rattle.reader_c.proofs.Answers.{struct_answer}
-use borrow.Author.Rules.{rules}
 use Rattle.reader_c.proofs.bundles.cqdb_bundle_append.Goals as goal
 
 pub returns-in-Length : goal.returns-in-Length
 returns-in-Length c =
-    struct_answer append_answer appended_of c.in-Length.is c.append-appended.ensures
+    record {
+      answer = struct_answer append_answer appended_of c.in-Length.is c.append-appended.ensures.answer;
+      leaves = c.append-appended.ensures.leaves;
+    }
 
 pub returns-in-Refused : goal.returns-in-Refused
 returns-in-Refused c =
-    struct_answer append_answer appended_of c.in-Refused.is c.append-appended.ensures
+    record {
+      answer = struct_answer append_answer appended_of c.in-Refused.is c.append-appended.ensures.answer;
+      leaves = c.append-appended.ensures.leaves;
+    }

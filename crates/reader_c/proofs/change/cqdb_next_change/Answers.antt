@@ -8,23 +8,22 @@ use Rattle.reader_c.specs.declared.change.NameAnswer.{NameAnswer}
 use Rattle.reader_c.specs.declared.change.ChangeAnswer.{ChangeAnswer}
 use Rattle.reader_c.specs.ChangeAnswers.{change_answer}
 use Rattle.reader_c.proofs.ShortNames.{ShortNames, change_short}
-use borrow.Author.Rules.{rules}
-use Rattle.reader_c.proofs.change.cqdb_next_change.Goals.{In-At-2}
+use Rattle.reader_c.proofs.change.cqdb_next_change.Goals.{In-At}
 use Rattle.reader_c.proofs.change.cqdb_next_change.Goals as goal
 
 -- both namings of the id that was found
-short_here : (c : In-At-2) → ShortNames (naming_of c.in-At.before) (naming_of c.in-At.after)
+short_here : (c : In-At) → ShortNames (naming_of c.in-At.before) (naming_of c.in-At.after)
 short_here c =
     let a = c.args in
-    change_short a.old.now a.new.now (λ (i : ℕ). omega (arith, c.shared_slice_known-1.given i))
-    (λ (i : ℕ). omega (arith, c.shared_slice_known-2-1.given i)) a.from c.in-At.id (naming_of c.in-At.before)
+    change_short a.old.now a.new.now (λ (i : ℕ). omega (arith, (c.type_inv.old i).fits))
+    (λ (i : ℕ). omega (arith, (c.type_inv.new i).fits)) a.from c.in-At.id (naming_of c.in-At.before)
     (naming_of c.in-At.after) (ap change_of (sym c.in-At.is) ∙ c.next_change.ensures)
 
 pub name_answer-was-requires : goal.name_answer-was-requires
-name_answer-was-requires c = (short_here (goal.at.name_answer-was-requires c).In-At-2).before_short
+name_answer-was-requires c = (short_here (goal.at.name_answer-was-requires c).In-At).before_short
 
 pub name_answer-is-requires : goal.name_answer-is-requires
-name_answer-is-requires c = (short_here (goal.at.name_answer-is-requires c).In-At-2).after_short
+name_answer-is-requires c = (short_here (goal.at.name_answer-is-requires c).In-At).after_short
 
 pub returns-in-At : goal.returns-in-At
 returns-in-At c =

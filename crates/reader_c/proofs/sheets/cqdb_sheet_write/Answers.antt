@@ -2,12 +2,18 @@
 use Rattle.sheet.specs.Cases.{written_of}
 use Rattle.reader_c.specs.SheetAnswers.{length_answer}
 use Rattle.reader_c.proofs.Answers.{struct_answer}
-use borrow.Author.Rules.{rules}
 use Rattle.reader_c.proofs.sheets.cqdb_sheet_write.Goals as goal
 
 pub returns-in-Length : goal.returns-in-Length
 returns-in-Length c =
-    struct_answer length_answer written_of c.in-Length.is c.write-written.ensures
+    record {
+      answer = struct_answer length_answer written_of c.in-Length.is c.write-written.ensures.answer;
+      leaves = c.write-written.ensures.leaves;
+    }
 
 pub returns-in-TooLarge : goal.returns-in-TooLarge
-returns-in-TooLarge c = struct_answer length_answer written_of c.in-TooLarge.is c.write-written.ensures
+returns-in-TooLarge c =
+    record {
+      answer = struct_answer length_answer written_of c.in-TooLarge.is c.write-written.ensures.answer;
+      leaves = c.write-written.ensures.leaves;
+    }

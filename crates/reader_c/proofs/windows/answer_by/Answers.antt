@@ -16,9 +16,8 @@ pub overflow_cast-result : goal.overflow_cast-result
 overflow_cast-result c =
     let a = c.args in
     let of-place = c.place_by_state in
-    let known = c.shared_slice_known-1.given in
     let so = named_so a.image.now a.id a.date a.s c.in-Place.start c.in-Place.len (sym of-place.ensures ∙ ap named_on_of c.in-Place.is) in
-    omega (arith, named_small a.image.now a.id c.in-Place.start c.in-Place.len (λ (i : ℕ). omega (arith, known i)) so)
+    omega (arith, named_small a.image.now a.id c.in-Place.start c.in-Place.len (λ (i : ℕ). omega (arith, (c.type_inv.image i).fits)) so)
 
 pub returns-in-Place : goal.returns-in-Place
 returns-in-Place c = ap on_answer (ap named_on_of (sym c.in-Place.is) ∙ c.place_by_state.ensures)
