@@ -3,11 +3,11 @@ use Prim.Native.Nat.{ℕ, ◌+◌, ◌≤◌, ◌<◌}
 use native.Mathlib.Omega.{arith}
 use native.Mathlib.Decide.{dec_lt}
 use mathlib.Core.Path.{◌≡◌, sym, ap, ◌∙◌}
-use mathlib.Core.Bool.{Bool, cond, ◌&&◌}
+use mathlib.Core.Bool.{Bool, true, cond, ◌&&◌}
 use mathlib.Core.List.{List}
 use lib.ListN.{length, get_or, take, get_or-eq_default}
 use lib.Dec.{eqb, leb}
-use borrow.Author.Tests.{leb-true, eqb-true}
+use borrow.Author.Tests.{leb-true, eqb-true, le-leb, eq-eqb}
 use Rattle.image.proofs.Bools.{and_first, and_second, chose_first}
 use Rattle.catalogue.specs.Lines.{leading_digits, decimal, entry, other, form_with, parse_line}
 
@@ -48,3 +48,15 @@ named line id at e =
     let in-line = space_inside line n (eqb-true (get_or line n 0) 32 (and_second (some-digits && few-digits) space held)) in
     let same : n + 1 ≡ at = cc chosen.1 in
     record { inside = omega arith; low = omega arith }
+
+-- the line's form by its last two tests, where 1 to 10 digits stand in front
+pub form_digits : (line : List ℕ) (n : ℕ) (c d : Bool) → n ≡ leading_digits line → 1 ≤ n → n ≤ 10 → eqb (get_or line n 0) 32 ≡ c
+    → leb (decimal (take n line)) 4294967295 ≡ d → cond (true && true && c && d) (entry (decimal (take n line)) (n + 1)) other ≡ parse_line line
+form_digits line n c d e low high ec ed = form_by line n true true c d e (le-leb 1 n low) (le-leb n 10 high) ec ed
+
+-- by the number v that was read of the digits
+pub form_read : (line : List ℕ) (n v : ℕ) (d : Bool) → n ≡ leading_digits line → 1 ≤ n → n ≤ 10 → get_or line n 0 ≡ 32 → v ≡ decimal (take n line)
+    → leb v 4294967295 ≡ d → cond d (entry v (n + 1)) other ≡ parse_line line
+form_read line n v d e low high space read ed =
+    ap (λ (k : ℕ). cond d (entry k (n + 1)) other) read
+    ∙ form_digits line n true d e low high (eq-eqb (get_or line n 0) 32 space) (ap (λ (k : ℕ). leb k 4294967295) (sym read) ∙ ed)

@@ -15,11 +15,11 @@ use Rattle.catalogue.specs.Steps.Pieces.{Gathering, have_after, gathered, line_e
 use Rattle.catalogue.proofs.Skipped.{after_entry}
 
 -- a line's put, of the part of the line that is the name: it leaves `after`
-pub put_part : {P : Type 0} (s after : State) (line : List ℕ) (id at : ℕ) → parse_line line ≡ entry id at
-    → P × (after ≡ after_put s (entry_of (take (length line - at) (drop at line)) id)) → after ≡ after_put_line s line
+pub put_part : (s after : State) (line : List ℕ) (id at : ℕ) → parse_line line ≡ entry id at
+    → after ≡ after_put s (entry_of (take (length line - at) (drop at line)) id) → after ≡ after_put_line s line
 put_part s after line id at e put =
     let l = length-drop at line in
-    put.1
+    put
     ∙ ap (λ (name : List ℕ). after_put s (entry_of name id)) (take_all (length line - at) (drop at line) (omega arith))
     ∙ sym (after_entry s line id at e)
 

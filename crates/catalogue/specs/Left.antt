@@ -1,5 +1,5 @@
--- What reading leaves. No contract can name the bytes that are read: these say that there is an input, and that what
--- the program leaves is what the rule of 01, "Examples from the quay", leaves of that input.
+-- What reading leaves: there is an input, and what the program leaves is what the rule of 01, "Examples from the quay",
+-- leaves of that input. Where the bytes of a reader are known, a contract names them, and they are the input.
 use Rattle.std.specs.Prelude.{ℕ, ◌≡◌, List, length, take}
 use Rattle.image.specs.declared.Mode.TheVariants.{Twoway}
 use Rattle.image.specs.Image.{Entry, image}
@@ -21,6 +21,12 @@ pub record Left (before after : State) : Type 0 where
 -- entries and size of the image of an input, which is the first bytes of a buffer of n bytes
 pub record Built (n entries size : ℕ) (buffer : List ℕ) : Type 0 where
   pub input : List ℕ
+  pub counted : entries ≡ length (puts_of n input)
+  pub sized : size ≡ size_of Twoway (puts_of n input)
+  pub imaged : take size buffer ≡ image Twoway (puts_of n input)
+
+-- entries and size of the image of this input, which is the first bytes of a buffer of n bytes
+pub record IsBuiltOf (n : ℕ) (input : List ℕ) (entries size : ℕ) (buffer : List ℕ) : Type 0 where
   pub counted : entries ≡ length (puts_of n input)
   pub sized : size ≡ size_of Twoway (puts_of n input)
   pub imaged : take size buffer ≡ image Twoway (puts_of n input)

@@ -1,6 +1,7 @@
 -- The lines of an input, and the puts that they ask for: 01, "Examples from the quay", the paragraph on the
 -- demonstration program.
-use Rattle.std.specs.Prelude.{ℕ, suc, ◌+◌, ◌*◌, ◌-◌, Bool, cond, ◌&&◌, List, [], ◌∷◌, ◌++◌, get_or, take, drop, eqb, leb}
+use Rattle.std.specs.Prelude.{ℕ, suc, ◌+◌, ◌*◌, ◌-◌, Bool, cond, ◌&&◌, List, [], ◌∷◌, ◌++◌}
+use Rattle.std.specs.Prelude.{get_or, take, drop, eqb, leb}
 use Rattle.writer.specs.State.{State}
 use Rattle.writer.specs.Put.{entry_of}
 use Rattle.lists.specs.Calls.{Call, put, after}

@@ -2,15 +2,17 @@
 // size, then the walk as id and name.
 #![tactic(auto)]
 
-ghost use Rattle.std.specs.Prelude.{◌≤◌, length};
+ghost use Rattle.std.specs.Prelude.{◌<◌, ◌≤◌, ◌≡◌, length, OnOk, IfSome};
 ghost use Rattle.writer.specs.State.{state_with};
 ghost use Rattle.image.specs.Image.{head_size};
-ghost use Rattle.catalogue.specs.Left.{Left, Built};
+ghost use Rattle.catalogue.specs.Lines.{after_input};
+ghost use Rattle.catalogue.specs.Left.{Left, Built, IsBuiltOf};
 
 use image::Mode;
-use libc::{STDIN_FILENO, STDOUT_FILENO};
 use pieces::{end_input, take_piece};
 use reader::Stepped;
+use std::io;
+use std::io::{ErrorKind, Read, Write};
 use writer::{CQDBWriter, Closed, Repeats};
 
 mod parsing; // parsing.rt: a line, an id and a name
@@ -30,30 +32,35 @@ pub struct Intake {
     pub have: usize,
 }
 
-// Puts the lines of standard input, read piece by piece. A proved loop has to end, and nothing says that an input
-// does: it counts its turns down from a number that no run uses up.
-fn put_input(
+// Puts the lines of an input, read piece by piece: all of them, or those before a read that failed. A proved loop has
+// to end, and nothing says that an input does: it counts its turns up to a number that no run uses up.
+fn put_input<R: Read>(
+    input: &mut R,
     w: CQDBWriter,
     counts: &mut [u32; 256],
     buf: &mut [u8],
     room: &mut [u8],
     piece: &mut [u8],
-) -> CQDBWriter
-    ensures { w.length ≤ length room.old
+) -> (CQDBWriter, io::Result<()>)
+    ensures left { w.length ≤ length room.old
         → Left (state_with w counts.old buf.old)
-        (state_with result counts.new buf.new) }
+        (state_with result.0 counts.new buf.new) }
+    ensures whole { OnOk result.1 (w.length ≤ length room.old → 0 < length piece.old
+        → IfSome (R.remaining input.old) (λ bytes. state_with result.0 counts.new buf.new
+        ≡ after_input (state_with w counts.old buf.old) bytes)) }
 {
     let mut t = Intake { writer: w, have: 0 };
-    let mut turns = u64::MAX;
-    while turns > 0 {
-        let n = io::count(libc::read(STDIN_FILENO, &mut *piece), &*piece);
-        if n == 0 {
-            break;
+    for _ in 0..u64::MAX {
+        match input.read(&mut *piece) {
+            Ok(0) => return (end_input(t, counts, buf, &*room), Ok(())),
+            Ok(n) => t = take_piece(t, &mut *counts, &mut *buf, &mut *room, &piece[..n]),
+            Err(e) => return (end_input(t, counts, buf, &*room), Err(e)),
         }
-        t = take_piece(t, &mut *counts, &mut *buf, &mut *room, &piece[..n]);
-        turns -= 1;
     }
-    end_input(t, counts, buf, &*room)
+    (
+        end_input(t, counts, buf, &*room),
+        Err(io::Error::from(ErrorKind::TimedOut)),
+    )
 }
 
 // What is printed first: the number of entries, and the size of the image, which is the buffer's first bytes.
@@ -63,43 +70,60 @@ struct Totals {
     size: u32,
 }
 
-// Builds the image of the lines of standard input in a lent buffer. Where the buffer takes a head, neither begin nor
-// close refuses.
-fn build(counts: &mut [u32; 256], buf: &mut [u8], room: &mut [u8], piece: &mut [u8]) -> Totals
-    ensures { head_size ≤ length buf.old → length buf.old ≤ length room.old
-        → Built (length buf.old) result.entries result.size buf.new }
+// Builds the image of the lines of an input in a lent buffer. Where the buffer takes a head, neither begin nor close
+// refuses. Where a read fails, the image is that of the lines before it.
+fn build<R: Read>(
+    input: &mut R,
+    counts: &mut [u32; 256],
+    buf: &mut [u8],
+    room: &mut [u8],
+    piece: &mut [u8],
+) -> (Totals, io::Result<()>)
+    ensures built { head_size ≤ length buf.old → length buf.old ≤ length room.old
+        → Built (length buf.old) result.0.entries result.0.size buf.new }
+    ensures whole { OnOk result.1 (head_size ≤ length buf.old → length buf.old ≤ length room.old
+        → 0 < length piece.old → IfSome (R.remaining input.old) (λ bytes.
+        IsBuiltOf (length buf.old) bytes result.0.entries result.0.size buf.new)) }
 {
     let writer::Begun::Fresh(fresh) = writer::begin(Mode::Twoway, Repeats::Off, &mut *counts, &*buf)
     else {
-        return Totals {
-            entries: 0,
-            size: 0,
-        };
+        return (
+            Totals {
+                entries: 0,
+                size: 0,
+            },
+            Ok(()),
+        );
     };
-    let w = put_input(fresh, &mut *counts, &mut *buf, room, piece);
+    let (w, read) = put_input(input, fresh, &mut *counts, &mut *buf, room, piece);
     let answer = writer::close(w, &*counts, buf).answer;
     let Closed::Size(size) = answer else {
-        return Totals {
-            entries: 0,
-            size: 0,
-        };
+        return (
+            Totals {
+                entries: 0,
+                size: 0,
+            },
+            read,
+        );
     };
-    Totals {
-        entries: w.entries,
-        size,
-    }
+    (
+        Totals {
+            entries: w.entries,
+            size,
+        },
+        read,
+    )
 }
 
 // Two things on a line, with a space between them: a number, and bytes.
-fn print_line(n: u64, rest: &[u8]) {
-    io::print_decimal(STDOUT_FILENO, n);
-    io::write_all(STDOUT_FILENO, b" ");
-    io::write_all(STDOUT_FILENO, rest);
-    io::write_all(STDOUT_FILENO, b"\n");
+fn print_line<W: Write>(output: &mut W, n: u64, rest: &[u8]) -> io::Result<()> {
+    write!(output, "{n} ")?;
+    output.write_all(rest)?;
+    output.write_all(b"\n")
 }
 
 // The walk, as id and name.
-fn print_walk(image: &[u8]) {
+fn print_walk<W: Write>(output: &mut W, image: &[u8]) -> io::Result<()> {
     let mut walk = reader::id_walk::iter();
     loop {
         let Stepped::Item {
@@ -109,32 +133,36 @@ fn print_walk(image: &[u8]) {
             iter,
         } = reader::id_walk::next(image, walk)
         else {
-            return;
+            return Ok(());
         };
-        print_line(id as u64, &image[start..start + len]);
+        print_line(output, id as u64, &image[start..start + len])?;
         walk = iter;
     }
 }
 
 // Entries and size, then the walk of the image, which is the buffer's first bytes. It asks for what it is handed to
 // be the image of some input, in 65,536 bytes.
-fn print_image(entries: u32, size: u32, buf: &[u8])
+fn print_image<W: Write>(output: &mut W, entries: u32, size: u32, buf: &[u8]) -> io::Result<()>
     requires { Built 65536 entries size buf.now }
 {
-    io::print_decimal(STDOUT_FILENO, entries as u64);
-    io::write_all(STDOUT_FILENO, b" ");
-    io::print_decimal(STDOUT_FILENO, size as u64);
-    io::write_all(STDOUT_FILENO, b"\n");
+    writeln!(output, "{entries} {size}")?;
     let n = size as usize;
-    print_walk(&buf[..n]);
+    print_walk(output, &buf[..n])
 }
 
-// `io::large_buffer` has 65,536 bytes.
-fn main() {
+// A read or a write that fails ends the program with its error.
+fn main(rt: HostRuntime) -> io::Result<()> {
     let mut counts = [0u32; 256];
-    let mut buf = io::large_buffer();
-    let mut room = io::large_buffer();
-    let mut piece = io::large_buffer();
-    let image = build(&mut counts, &mut buf, &mut room, &mut piece);
-    print_image(image.entries, image.size, &buf);
+    let mut buf = [0u8; 65536];
+    let mut room = [0u8; 65536];
+    let mut piece = [0u8; 65536];
+    let (image, read) = build(
+        &mut rt.reader(),
+        &mut counts,
+        &mut buf,
+        &mut room,
+        &mut piece,
+    );
+    read?;
+    print_image(&mut io::writer(&rt), image.entries, image.size, &buf)
 }

@@ -39,7 +39,8 @@
 
 use image::Mode;
 use jhash::Hashed;
-use libc::STDIN_FILENO;
+use std::io;
+use std::io::{Read, Write};
 use writer::{CQDBWriter, Repeats};
 
 mod hex; // hex.rt: numbers and bytes written as hexadecimal digits
@@ -151,28 +152,34 @@ fn nothing_yet() -> State {
 }
 
 // Every line of a text.
-fn replay(text: &[u8], image: &mut [u8], counts: &mut [u32; 256], buf: &mut [u8]) -> Counts {
+fn replay<W: Write>(
+    output: &mut W,
+    text: &[u8],
+    image: &mut [u8],
+    counts: &mut [u32; 256],
+    buf: &mut [u8],
+) -> io::Result<Counts> {
     let mut seen = verdict::none();
     let mut state = nothing_yet();
-    let mut at = 0;
-    while at < text.len() {
-        let end = bytes::scan::find(text, at, text.len(), b'\n');
-        let next = end + 1;
-        let line = &text[at..end];
+    for line in text.split(|b| *b == b'\n') {
         let left = any_line(state, line, &mut *image, &mut *counts, &mut *buf);
-        let verdict = left.verdict;
         state = left.state;
-        seen = verdict::counted(seen, line, verdict);
-        at = next;
+        seen = verdict::counted(output, seen, line, left.verdict)?;
     }
-    seen
+    Ok(seen)
 }
 
-fn main() {
-    let mut text = [0u8; 262144];
+// How much of the input is read.
+const MOST: u64 = 262144;
+
+// A read or a write that fails ends the program with its error.
+fn main(rt: HostRuntime) -> io::Result<()> {
+    let mut text = Vec::new(rt.alloc());
+    rt.reader().take(MOST).read_to_end(&mut text)?;
     let mut image = [0u8; 16384];
     let mut buf = [0u8; 16384];
     let mut counts = [0u32; 256];
-    let n = io::read_full(STDIN_FILENO, &mut text);
-    verdict::print(replay(&text[..n], &mut image, &mut counts, &mut buf));
+    let mut output = io::writer(&rt);
+    let seen = replay(&mut output, &text, &mut image, &mut counts, &mut buf)?;
+    verdict::print(&mut output, seen)
 }

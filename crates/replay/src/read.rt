@@ -70,7 +70,7 @@ fn finds_as(tag: u32, n: u32, name: &[u8], image: &[u8]) -> bool {
 fn names_as(tag: u32, id: u32, name: &[u8], image: &[u8]) -> bool {
     match reader::to_str(image, id) {
         Named::Place { start: _, len: _ } => {
-            tag == tags::NAME && check::same(reader::name(image, id), name)
+            tag == tags::NAME && reader::name(image, id) == name
         }
         Named::Nothing => tag == tags::VOID,
     }
@@ -93,7 +93,7 @@ fn steps_as(tag: u32, n: u32, name: &[u8], next: u32, image: &[u8]) -> bool {
             start: _,
             len: _,
             iter: _,
-        } => tag == tags::ITEM && n == id && check::same(reader::name(image, id), name),
+        } => tag == tags::ITEM && n == id && reader::name(image, id) == name,
         Stepped::Done => tag == tags::ENDS,
     }
 }

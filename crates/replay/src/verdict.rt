@@ -1,5 +1,6 @@
 // The verdicts on lines, and how many lines had each.
-use libc::STDOUT_FILENO;
+use std::io;
+use std::io::Write;
 
 // What became of a line: its stored answer is the one that was given, or another; it could not be read; or it asks for
 // no answer.
@@ -37,41 +38,44 @@ pub(super) fn equal_if(same: bool) -> Verdict {
     }
 }
 
-fn print_line(label: &[u8], line: &[u8]) {
-    io::write_all(STDOUT_FILENO, label);
-    io::write_all(STDOUT_FILENO, line);
-    io::write_all(STDOUT_FILENO, b"\n");
+fn print_line<W: Write>(output: &mut W, label: &[u8], line: &[u8]) -> io::Result<()> {
+    output.write_all(label)?;
+    output.write_all(line)?;
+    output.write_all(b"\n")
 }
 
 // One more line with this verdict. It is printed where it is different or malformed.
-pub(super) fn counted(c: Counts, line: &[u8], v: Verdict) -> Counts {
+pub(super) fn counted<W: Write>(
+    output: &mut W,
+    c: Counts,
+    line: &[u8],
+    v: Verdict,
+) -> io::Result<Counts> {
     let mut after = c;
     match v {
         Verdict::Equal => {
             after.equal = std::num::wrapping_add_u64(after.equal, 1);
         }
         Verdict::Different => {
-            print_line(b"different: ", line);
+            print_line(output, b"different: ", line)?;
             after.different = std::num::wrapping_add_u64(after.different, 1);
         }
         Verdict::Malformed => {
-            print_line(b"malformed: ", line);
+            print_line(output, b"malformed: ", line)?;
             after.malformed = std::num::wrapping_add_u64(after.malformed, 1);
         }
         Verdict::Silent => {}
     }
-    after
+    Ok(after)
 }
 
-fn print_number(label: &[u8], n: u64) {
-    io::write_all(STDOUT_FILENO, label);
-    io::print_decimal(STDOUT_FILENO, n);
-    io::write_all(STDOUT_FILENO, b"\n");
+fn print_number<W: Write>(output: &mut W, label: &str, n: u64) -> io::Result<()> {
+    writeln!(output, "{label}{n}")
 }
 
 // Writes the counts out.
-pub(super) fn print(c: Counts) {
-    print_number(b"equal ", c.equal);
-    print_number(b"different ", c.different);
-    print_number(b"malformed ", c.malformed);
+pub(super) fn print<W: Write>(output: &mut W, c: Counts) -> io::Result<()> {
+    print_number(output, "equal ", c.equal)?;
+    print_number(output, "different ", c.different)?;
+    print_number(output, "malformed ", c.malformed)
 }

@@ -1,15 +1,23 @@
 // A line's words: what stands before a space, and what follows it.
+ghost use Rattle.std.specs.Prelude.{◌≤◌, length};
+
 use jhash::word::byte_as_word;
+
+// How long the first word is: up to a space, or to the end.
+fn first_length(line: &[u8]) -> usize
+    ensures { result ≤ length line.now }
+{
+    line.iter().position(|b| *b == b' ').unwrap_or(line.len())
+}
 
 // The first word.
 pub(super) fn first<'a>(line: &'a [u8]) -> &'a [u8] {
-    let k = bytes::scan::find(line, 0, line.len(), b' ');
-    &line[0..k]
+    &line[..first_length(line)]
 }
 
 // What follows the first word.
 pub(super) fn rest<'a>(line: &'a [u8]) -> &'a [u8] {
-    let k = bytes::scan::find(line, 0, line.len(), b' ');
+    let k = first_length(line);
     if line.len() <= k {
         return &line[k..];
     }

@@ -143,7 +143,7 @@ fn part(s: State, text: &[u8], image: &[u8]) -> Step {
     if rest.len() < n {
         return judged(s, Verdict::Different);
     }
-    advanced(s, n, check::same(&rest[0..n], &room[0..n]))
+    advanced(s, n, rest[..n] == room[..n])
 }
 
 // The next bytes, so many, are zeros.

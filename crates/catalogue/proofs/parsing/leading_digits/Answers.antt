@@ -1,14 +1,7 @@
 -- `catalogue::parsing::leading_digits` meets its contract: the digits passed and those still to come are all that the line begins with. Assumes nothing.
-use Prim.Native.Nat.{ℕ, ◌+◌, ◌-◌, ◌≤◌}
 use native.Mathlib.Omega.{arith}
-use mathlib.Core.Path.{◌≡◌, sym, ◌∙◌}
-use mathlib.Core.List.{List}
-use lib.ListN.{length, drop}
-use borrow.Author.Rules.{rules}
-use borrow.Author.Tests.{not-true, not-false}
-use Rattle.catalogue.specs.Lines.{leading_digits}
+use mathlib.Core.Path.{sym, ◌∙◌}
 use Rattle.catalogue.proofs.Decimals.{digit_passed, digits_stop, digits_end}
-use Rattle.catalogue.proofs.parsing.leading_digits.Invariants.{Inv}
 use Rattle.catalogue.proofs.parsing.leading_digits.Goals as goal
 
 pub loop-n-init : goal.loop-n-init

@@ -1,13 +1,7 @@
 -- `catalogue::parsing::number` meets its contract: what is still to be read makes of what was read the number of all. Assumes nothing.
-use Prim.Native.Nat.{ℕ, ◌+◌, ◌*◌, ◌-◌, ◌^◌, ◌≤◌}
 use native.Mathlib.Omega.{arith}
-use mathlib.Core.Path.{◌≡◌, refl, sym, ◌∙◌}
-use mathlib.Core.List.{List}
-use lib.ListN.{length, drop}
-use borrow.Author.Rules.{rules}
-use Rattle.catalogue.specs.Lines.{number_from, decimal}
+use mathlib.Core.Path.{refl, sym, ◌∙◌}
 use Rattle.catalogue.proofs.Decimals.{digit_read_lem, number_end, bound_more, bound_fits}
-use Rattle.catalogue.proofs.parsing.number.Invariants.{Inv}
 use Rattle.catalogue.proofs.parsing.number.Goals as goal
 
 pub loop-i-init : goal.loop-i-init

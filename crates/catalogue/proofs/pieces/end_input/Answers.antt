@@ -1,6 +1,5 @@
 -- `catalogue::pieces::end_input` meets its contract. Assumes nothing.
 use mathlib.Core.Path.{ap}
-use borrow.Author.Rules.{rules}
 use Rattle.catalogue.specs.Steps.Pieces.{Gathering, input_ended}
 use Rattle.catalogue.proofs.pieces.end_input.Goals as goal
 

@@ -4,7 +4,6 @@ use mathlib.Core.Path.{sym}
 use Prim.Native.Nat.{◌≤◌}
 use lib.ListN.{length}
 use lib.Seq.{length-take-le}
-use borrow.Author.Rules.{rules}
 use Rattle.writer.specs.State.{state_with}
 use Rattle.catalogue.proofs.PieceBytes.{ended_put, ended_dropped}
 use Rattle.catalogue.proofs.pieces.end_line.Goals as goal

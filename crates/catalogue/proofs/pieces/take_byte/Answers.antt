@@ -1,6 +1,5 @@
 -- `catalogue::pieces::take_byte` meets its contract. Assumes nothing.
-use borrow.Author.Rules.{rules}
-use Rattle.writer.specs.State.{State, state_with}
+use Rattle.writer.specs.State.{state_with}
 use Rattle.catalogue.proofs.PieceBytes.{byte_feed, byte_more}
 use Rattle.catalogue.proofs.pieces.take_byte.Goals as goal
 

@@ -1,13 +1,11 @@
 -- `catalogue::pieces::take_piece` meets its contract: what is still to be taken makes of what was taken what the whole piece leaves. Assumes nothing.
-use Prim.Native.Nat.{ℕ, ◌+◌, ◌-◌, ◌≤◌}
+use Prim.Native.Nat.{◌+◌}
 use native.Mathlib.Omega.{arith}
-use mathlib.Core.Path.{◌≡◌, refl, sym, ap, ◌∙◌}
-use mathlib.Core.List.{List}
-use lib.ListN.{length, drop}
+use mathlib.Core.Path.{refl, sym, ap, ◌∙◌}
+use lib.ListN.{drop}
 use borrow.Author.Rules.{rules}
 use Rattle.catalogue.specs.Steps.Pieces.{Gathering, gathering, take_piece}
 use Rattle.catalogue.proofs.PieceBytes.{piece_turn, piece_end}
-use Rattle.catalogue.proofs.pieces.take_piece.Invariants.{Inv}
 use Rattle.catalogue.proofs.pieces.take_piece.Goals as goal
 
 pub loop-i-init : goal.loop-i-init
@@ -37,4 +35,5 @@ loop-i-preserved c =
 
 pub returns : goal.returns
 returns c =
-    sym (piece_end (gathering c.loop-i.after c.loop-i.counts c.loop-i.buf c.loop-i.room) c.args.piece.now c.loop-i.i c.loop-i-test.false) ∙ c.loop-i.invariant.whole
+    sym (piece_end (gathering c.loop-i.after c.loop-i.counts c.loop-i.buf c.loop-i.room) c.args.piece.now c.loop-i.i c.loop-i-test.false)
+    ∙ c.loop-i.invariant.whole

@@ -1,12 +1,9 @@
 -- `catalogue::pieces::take_piece` meets its contract: what is still to be taken makes of what was taken what the whole piece leaves. Assumes nothing.
-use Prim.Native.Nat.{ℕ, ◌+◌, ◌-◌, ◌≤◌}
-use native.Mathlib.Omega.{arith}
-use mathlib.Core.Path.{◌≡◌, refl, sym, ap, ◌∙◌}
+use Prim.Native.Nat.{ℕ, ◌-◌, ◌≤◌}
+use mathlib.Core.Path.{◌≡◌}
 use mathlib.Core.List.{List}
 use lib.ListN.{length, drop}
-use borrow.Author.Rules.{rules}
 use Rattle.catalogue.specs.Steps.Pieces.{Gathering, gathering, take_piece}
-use Rattle.catalogue.proofs.PieceBytes.{piece_turn, piece_end}
 use Rattle.catalogue.proofs.pieces.take_piece.Given as goal
 
 pub record Inv (piece : List ℕ) (g₀ g : Gathering) (i : ℕ) : Type 0 where
