@@ -154,7 +154,7 @@ module _ (mode : Mode) (es : List Entry) (each : All Storable es) (fits : image_
       rw back_words_at
       (back_words_match (back_word_at img (entries_end es + 16 * length es)) (back_size_at img) ps (all_rise es)
       (all_placed (λ (e : Entry). e.id < back_size_at img) head_size es (ids_below es (back_size_at img) (omega arith)))
-      (λ i h. ip.back_words_lem i (omega (arith, ip.back_size_lem))))
+      (λ i h. ip.back_word_of i (omega (arith, ip.back_size_lem))))
 
   -- what the checks of the back words ask, in either mode
   abbrev Linked : Mode → Type 0
@@ -190,7 +190,7 @@ module _ (mode : Mode) (es : List Entry) (each : All Storable es) (fits : image_
     backs =
         ip.back_size_lem
         ∙ sym (ap₂ (λ (f : Mode) (l : List Entry). back_in f (back_size l)) flags entries_are);
-    back_words_lem =
+    back_word_of =
         ap₂ (λ (two : Bool) (l : List Entry). cond two (back_words_counted img (end_in img n + 16 * n) (back_size_at img) (placed head_size l)) true)
         two_is entries_are
         ∙ lasts.1;
@@ -206,7 +206,7 @@ module _ (mode : Mode) (es : List Entry) (each : All Storable es) (fits : image_
     size = ip.size;
     flag = small mode ip.flag;
     room = omega (arith, ip.total, ip.back_size_lem);
-    back_offset_lem = ip.back_offset_lem ∙ sym (ap₂ (λ (b : ℕ) (o : ℕ). cond (eqb b 0) 0 o) ip.back_size_lem back_words_at);
+    back_start = ip.back_start ∙ sym (ap₂ (λ (b : ℕ) (o : ℕ). cond (eqb b 0) 0 o) ip.back_size_lem back_words_at);
     body = body_checked img n (end_in img n) (back_size_at img) body;
   }
     where

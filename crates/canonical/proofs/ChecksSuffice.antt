@@ -101,9 +101,9 @@ module _ (img : List ℕ) (n : ℕ) (bytes : AllBytes img) (c : Checked img n) w
         | no d ↦ rw (ne_eqb (word img 8) 0 d) (omega (arith, c.flag))
       ]
 
-  back_offset_lem : back_offset_at img ≡ back_offset mode es
+  back_start : back_offset_at img ≡ back_offset mode es
   unfolding back_offset
-  back_offset_lem = c.back_offset_lem ∙ ap₂ (λ (b : ℕ) (o : ℕ). cond (eqb b 0) 0 o) backs back_words_at
+  back_start = c.back_start ∙ ap₂ (λ (b : ℕ) (o : ℕ). cond (eqb b 0) 0 o) backs back_words_at
 
   entries_there : At img head_size (cat entry_bytes es)
   entries_there = record {
@@ -164,9 +164,9 @@ module _ (img : List ℕ) (n : ℕ) (bytes : AllBytes img) (c : Checked img n) w
           let d = rw e at (bucket_facts img (bucket_of p) r.1) in
           rw (row_place img (end_in img n) (row t h) (omega (arith, d.inside)) ∙ place_is t h, numbers t h) at d
 
-  back_words_lem : (i : ℕ) → i < back_size_of mode es → back_word (placed head_size es) i ≡ back_word_at img (entries_end es + 16 * length es) i
+  back_word_of : (i : ℕ) → i < back_size_of mode es → back_word (placed head_size es) i ≡ back_word_at img (entries_end es + 16 * length es) i
   unfolding mode es ps
-  back_words_lem i h = rw back_words_at at (by_mode (two_way img) b.backs checks b.back_words_lem h)
+  back_word_of i h = rw back_words_at at (by_mode (two_way img) b.backs checks b.back_word_of h)
     where
       o : ℕ
       o = end_in img n + 16 * n
@@ -193,12 +193,12 @@ module _ (img : List ℕ) (n : ℕ) (bytes : AllBytes img) (c : Checked img n) w
     flag = flag;
     order = (opens img n c.opened).order;
     back_size_lem = backs;
-    back_offset_lem = back_offset_lem;
+    back_start = back_start;
     total = total;
     rows = λ t h. (offset t h, numbers t h);
     entries = entries_there;
     tables = table;
-    back_words_lem = back_words_lem;
+    back_word_of = back_word_of;
   }
 
   pub checked_made : Made img

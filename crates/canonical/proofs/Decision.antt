@@ -48,5 +48,5 @@ module _ (img : List ℕ) (n : ℕ) (bytes : AllBytes img) (opened : opening img
       by_answer true e =
           sym (canonical_yes img
           (checked_made img n bytes
-          record { opened = opened; size = size; flag = flag; room = omega arith; back_offset_lem = rw (ee, eb) at offset; body = sym e }))
+          record { opened = opened; size = size; flag = flag; room = omega arith; back_start = rw (ee, eb) at offset; body = sym e }))
       by_answer false e = refuse (λ c. false_not_true (e ∙ c.body))

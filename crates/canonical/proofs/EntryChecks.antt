@@ -111,7 +111,7 @@ pub record Body (img : List ℕ) (n end back : ℕ) : Type 0 where
   pub entries : entries_ok img (two_way img) (end + 16 * n) (placed_from img end n head_size) ≡ true
   pub counts : counts_match img (tallied (replicate 256 0) (entries_to img end n)) ≡ true
   pub backs : back ≡ back_in (mode_in img) (back_size (entries_to img end n))
-  pub back_words_lem : cond (two_way img) (back_words_counted img (end + 16 * n) back (placed_from img end n head_size)) true ≡ true
+  pub back_word_of : cond (two_way img) (back_words_counted img (end + 16 * n) back (placed_from img end n head_size)) true ≡ true
 
 pub body_facts : (img : List ℕ) (n end back : ℕ) → body_ok img n end back ≡ true → Body img n end back
 unfolding body_ok
@@ -119,7 +119,7 @@ body_facts img n end back h =
     let valid = entries_valid img end n (two_way img) (end + 16 * n) in
     let counted = counts_match img (tallied (replicate 256 0) (entries_to img end n)) in
     let backs : ℕ = back_in (mode_in img) (back_size (entries_to img end n)) in
-    let (first, back_is, back_words_lem) = and3_facts (rows_ok img end && valid && counted) (eqb back backs) _ h in
+    let (first, back_is, back_word_of) = and3_facts (rows_ok img end && valid && counted) (eqb back backs) _ h in
     let (rows, entries, counts) = and3_facts (rows_ok img end) valid counted first in
     let wholes = whole n (between img head_size end) in
     record {
@@ -128,10 +128,10 @@ body_facts img n end back h =
       entries = and_second wholes _ entries;
       counts = counts;
       backs = eqb-true back backs back_is;
-      back_words_lem = back_words_lem;
+      back_word_of = back_word_of;
     }
 
 pub body_checked : (img : List ℕ) (n end back : ℕ) → Body img n end back → body_ok img n end back ≡ true
 unfolding body_ok
 body_checked img n end back t =
-    rw (t.rows, t.wholes, t.entries, t.counts, eq-eqb back (back_in (mode_in img) (back_size (entries_to img end n))) t.backs) t.back_words_lem
+    rw (t.rows, t.wholes, t.entries, t.counts, eq-eqb back (back_in (mode_in img) (back_size (entries_to img end n))) t.backs) t.back_word_of

@@ -134,7 +134,7 @@ unfolding entries_ok in_cells placed entries_in
 entering_end {img} {end} {entries} {two} {o} {counts₀} {at} {back} {lasts} {counts} e k =
     let w = walk_end img end entries counts₀ at back counts k e.rest in
     let all : true ≡ entries_ok img two o (placed_from img end entries 2072) = e.valid_same in
-    let back_words_lem : lasts + 0 ≡ own_back_words (back_word_at img o) (placed_from img end entries 2072) = e.lasts_same in
+    let back_word_of : lasts + 0 ≡ own_back_words (back_word_at img o) (placed_from img end entries 2072) = e.lasts_same in
     record {
       valid = w.0 ∙ sym (and-true (whole entries (between img 2072 end))) ∙ ap (λ (b : Bool). whole entries (between img 2072 end) && b) all;
       back = λ y. w.1;

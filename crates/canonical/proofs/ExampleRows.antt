@@ -116,7 +116,7 @@ offset_not = answer_false (canonical (head_bytes 2072 0 0 2072 ++ replicate 2048
         let bytes = head_bytes 2072 0 0 2072 ++ replicate 2048 0 in
         let all : AllBytes bytes = bytes_behind (head_bytes 2072 0 0 2072) (replicate 2048 0) head_bytes_lem (λ i. rw (zeros 2048 i) (lit< tt)) in
         let made = canonical_only bytes all e in
-        let said = (canonical_checked bytes made).back_offset_lem in
+        let said = (canonical_checked bytes made).back_start in
         let end = end_in bytes (length made.puts) + 16 * length made.puts in
         let z : ◌≡◌ {A = ℕ} 2072 0 = sym an_offset ∙ said ∙ ap (λ (b : ℕ). cond (eqb b 0) 0 end) no_array in
         absurd (omega arith)

@@ -70,10 +70,10 @@ module _ (mode : Mode) (es : List Entry) (fits : image_size mode es ≤ 42949672
     flag = flag_image mode es;
     order = magic_image mode es;
     back_size_lem = back_size_at_image mode es fits;
-    back_offset_lem = back_offset_at_image mode es fits;
+    back_start = back_offset_at_image mode es fits;
     total = length_image mode es;
     rows = λ t h. (table_at_image mode es fits t h, bucket_number_image mode es fits t h);
     entries = entries_at mode es;
     tables = table_filled_lem;
-    back_words_lem = λ i h. sym (at_word (back_word (placed head_size es) i) (back_word_at mode es fits i h) (back_word_below i));
+    back_word_of = λ i h. sym (at_word (back_word (placed head_size es) i) (back_word_at mode es fits i h) (back_word_below i));
   }

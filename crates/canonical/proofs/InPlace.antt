@@ -21,7 +21,7 @@ pub record InPlace (img : List ℕ) (mode : Mode) (es : List Entry) : Type 0 whe
   pub flag : word img 8 ≡ flag_word mode
   pub order : word img 12 ≡ 0x62445371
   pub back_size_lem : word img 16 ≡ back_size_of mode es
-  pub back_offset_lem : word img 20 ≡ back_offset mode es
+  pub back_start : word img 20 ≡ back_offset mode es
   pub total : length img ≡ image_size mode es
   pub rows : (t : ℕ) → t < 256
       → (table_at img t ≡ table_offset (entries_end es) (placed head_size es) t) × (bucket_number img t ≡ 2 * count t (placed head_size es))
@@ -29,4 +29,4 @@ pub record InPlace (img : List ℕ) (mode : Mode) (es : List Entry) : Type 0 whe
   pub tables : (t : ℕ) → t < 256
       → Filled (2 * count t (placed head_size es)) (bucket_at img (entries_end es + 16 * entries_before t (placed head_size es)))
       (map bucket_of (of_table t (placed head_size es)))
-  pub back_words_lem : (i : ℕ) → i < back_size_of mode es → back_word (placed head_size es) i ≡ back_word_at img (entries_end es + 16 * length es) i
+  pub back_word_of : (i : ℕ) → i < back_size_of mode es → back_word (placed head_size es) i ≡ back_word_at img (entries_end es + 16 * length es) i

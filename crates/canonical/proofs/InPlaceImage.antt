@@ -62,7 +62,7 @@ module _ (img : List ℕ) (mode : Mode) (es : List Entry) (bytes : AllBytes img)
   head =
       at_words img 0 (1111773507 ∷ image_size mode es ∷ flag_word mode ∷ 0x62445371 ∷ back_size_of mode es ∷ back_offset mode es ∷ []) bytes
       (omega (arith, long))
-      (letters_word img ip.letters, (ip.size ∙ ip.total, (ip.flag, (ip.order, (ip.back_size_lem, (ip.back_offset_lem, tt))))))
+      (letters_word img ip.letters, (ip.size ∙ ip.total, (ip.flag, (ip.order, (ip.back_size_lem, (ip.back_start, tt))))))
 
   rows : At img 24 (table_rows (entries_end es) ps)
   unfolding table_rows table_row ps cat le32
@@ -94,7 +94,7 @@ module _ (img : List ℕ) (mode : Mode) (es : List Entry) (bytes : AllBytes img)
   unfolding back_words ps
   all_back_words =
       at_run (λ (i : ℕ). le32 (back_word ps i)) 4 (entries_end es + 16 * length es) (back_size_of mode es) (λ i. length_le32 (back_word ps i))
-      (λ i h. at_le32 img (entries_end es + 16 * length es + 4 * i) (back_word ps i) bytes (omega (arith, long)) (sym (ip.back_words_lem i h)))
+      (λ i h. at_le32 img (entries_end es + 16 * length es + 4 * i) (back_word ps i) bytes (omega (arith, long)) (sym (ip.back_word_of i h)))
 
   -- the parts, one after the other
   pub in_place_image : image mode es ≡ img

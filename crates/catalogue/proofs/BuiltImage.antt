@@ -18,7 +18,7 @@ use Rattle.lists.proofs.CallLists.{two_way_lem, list_begins, list_counts, list_w
 use Rattle.lists.proofs.OneMoreClose.{list_gives, list_formula, list_image}
 use Rattle.catalogue.specs.Lines.{input_calls, after_input}
 use Rattle.catalogue.specs.Left.{puts_of, Left, Built, IsBuiltOf}
-use Rattle.std.specs.Prelude.{Option, None, Some, IfSome, Result, Ok, Err, OnOk}
+use Rattle.std.specs.Prelude.{Option, None, Some, IfSome}
 
 -- begin does not refuse, and leaves a fresh record
 module _ (buffer : List ℕ) (room : head_size ≤ length buffer) where
@@ -109,11 +109,6 @@ module _ (buffer room given counts : List ℕ) (w : CQDBWriter) (b : Outcome CQD
   built_whole (Some input) put n d t gave close leaves =
       close_built buffer big input s (from_fresh input (put fits)) n t (sym gave ∙ close) leaves
 
--- what holds after an `Ok`
-pub ok_kept : {A E : Type 0} {P Q : Type 0} (r : Result A E) → (P → Q) → OnOk r P → OnOk r Q
-ok_kept (Ok x) f p = f p
-ok_kept (Err e) f p = tt
-
 -- the image lies in the buffer
 pub built_inside : (n entries k : ℕ) (buffer : List ℕ) → Built n entries k buffer → k ≤ length buffer
 built_inside n entries k buffer b =
@@ -124,8 +119,3 @@ built_inside n entries k buffer b =
     let formula = size_of_is Twoway es in
     let sized = b.sized in
     omega arith
-
--- in a buffer and a room of k bytes
-pub built_in : (k entries n : ℕ) (buffer room after : List ℕ) → k ≡ length buffer → k ≡ length room → head_size ≤ k
-    → (head_size ≤ length buffer → length buffer ≤ length room → Built (length buffer) entries n after) → Built k entries n after
-built_in k entries n buffer room after p q big built = rw p (built (omega arith) (omega arith))

@@ -106,7 +106,7 @@ module _ (r : ListRow) (c : Computed r) where
   image_holds img is small read =
       record {
         opened = read.names.opened ∙ ap value c.4;
-        back_offset_lem = ap back_offset_at is ∙ back_offset_at_image r.mode (entries r) small ∙ c.5;
+        back_start = ap back_offset_at is ∙ back_offset_at_image r.mode (entries r) small ∙ c.5;
         back_array_lem = ap back_array is ∙ back_array_lem r.mode (entries r) small ∙ c.6;
         named = each_map (λ a h. read.names.name_gives a.name ∙ h) r.names c.7;
         placed = each_map (λ a h. (read.id_gives a.id ∙ h.0, read.id_home a.id ∙ h.1)) r.ids c.8;

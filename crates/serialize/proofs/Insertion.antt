@@ -92,86 +92,86 @@ module _ (buf : List ℕ) (h at : ℕ) {o n : ℕ} {b : Bool} (is-o : o ≡ word
 
 -- ---- an entry
 
-pub entry_inserted_lem : (mode : Mode) (back_offset_lem : ℕ) (buf : List ℕ) (end at n : ℕ) {id h : ℕ} {b1 b2 : List ℕ} {met : Bool} → id ≡ word buf at
-    → h ≡ entry_hash buf at n → RowInserted buf end h at b1 met → b2 ≡ back_stored mode b1 back_offset_lem id at
-    → EntryInserted mode back_offset_lem buf end at n b2 met
+pub entry_inserted_lem : (mode : Mode) (back_start : ℕ) (buf : List ℕ) (end at n : ℕ) {id h : ℕ} {b1 b2 : List ℕ} {met : Bool} → id ≡ word buf at
+    → h ≡ entry_hash buf at n → RowInserted buf end h at b1 met → b2 ≡ back_stored mode b1 back_start id at
+    → EntryInserted mode back_start buf end at n b2 met
 unfolding entry_inserted
-entry_inserted_lem mode back_offset_lem buf end at n ei eh p q =
+entry_inserted_lem mode back_start buf end at n ei eh p q =
     record {
       leaves =
           q
-          ∙ ap₂ (λ (l : List ℕ) (i : ℕ). back_stored mode l back_offset_lem i at) (p.leaves ∙ ap (λ (k : ℕ). inserted_by_row buf k at) eh) ei;
+          ∙ ap₂ (λ (l : List ℕ) (i : ℕ). back_stored mode l back_start i at) (p.leaves ∙ ap (λ (k : ℕ). inserted_by_row buf k at) eh) ei;
       unmet = λ z. subst (λ (k : ℕ). RowUnmet buf end k at) eh (p.unmet z);
     }
 
 -- ---- a walk over the entries
 
 -- a whole entry lies before the end
-pub entry_in : {back_offset_lem end : ℕ} {buf₀ : List ℕ} → InsertEntriesPre back_offset_lem end buf₀ → (buf : List ℕ) → length buf ≡ length buf₀
+pub entry_in : {back_start end : ℕ} {buf₀ : List ℕ} → InsertEntriesPre back_start end buf₀ → (buf : List ℕ) → length buf ≡ length buf₀
     → (at n : ℕ) → at ≤ end
     → n ≡ whole_length (between buf at end) → n < 4294967296 → (n ≡ 0 → ⊥) → (at + (8 + n) ≤ end) × EntryPre at n buf
-entry_in {back_offset_lem} {end} pre buf long at n before is small some =
+entry_in {back_start} {end} pre buf long at n before is small some =
     let r = entry_room buf at end n before (omega (arith, pre.inside)) is some in
     (r.before, record { inside = r.name.inside; some = r.name.some; length_word = small; offset_word = omega (arith, pre.end_word) })
 
 -- the entries from `at` on, inserted into this buffer, leave what all entries leave, and meet none if all meet none
-pub record Inserting (mode : Mode) (back_offset_lem end entries : ℕ) (buf₀ buf : List ℕ) (at left : ℕ) (met : Bool) : Type 0 where
+pub record Inserting (mode : Mode) (back_start end entries : ℕ) (buf₀ buf : List ℕ) (at left : ℕ) (met : Bool) : Type 0 where
   pub inside : at ≤ end
   pub long : length buf ≡ length buf₀
-  pub leaves : inserted_from mode back_offset_lem end left at buf ≡ inserted_from mode back_offset_lem end entries 2072 buf₀
-  pub unmet : met ≡ false → UnmetFrom mode back_offset_lem end left at buf → UnmetFrom mode back_offset_lem end entries 2072 buf₀
+  pub leaves : inserted_from mode back_start end left at buf ≡ inserted_from mode back_start end entries 2072 buf₀
+  pub unmet : met ≡ false → UnmetFrom mode back_start end left at buf → UnmetFrom mode back_start end entries 2072 buf₀
 
-module _ {mode : Mode} {back_offset_lem end entries : ℕ} {buf₀ buf : List ℕ} {at left : ℕ} {met : Bool}
-    (inv : Inserting mode back_offset_lem end entries buf₀ buf at left met) where
+module _ {mode : Mode} {back_start end entries : ℕ} {buf₀ buf : List ℕ} {at left : ℕ} {met : Bool}
+    (inv : Inserting mode back_start end entries buf₀ buf at left met) where
   abbrev from : ℕ → List ℕ
-  from n = inserted_from mode back_offset_lem end (left - 1) (at + (8 + n)) (entry_inserted mode back_offset_lem buf at n)
+  from n = inserted_from mode back_start end (left - 1) (at + (8 + n)) (entry_inserted mode back_start buf at n)
 
   module _ {n : ℕ} (more : 0 < left) (is : n ≡ whole_length (between buf at end)) where
-    next : cond (eqb n 0) buf (from n) ≡ inserted_from mode back_offset_lem end entries 2072 buf₀
+    next : cond (eqb n 0) buf (from n) ≡ inserted_from mode back_start end entries 2072 buf₀
     unfolding inserted_from
     next =
         let m : suc (left - 1) ≡ left = omega arith in
-        ap (λ (k : ℕ). cond (eqb k 0) buf (from k)) is ∙ ap (λ (k : ℕ). inserted_from mode back_offset_lem end k at buf) m ∙ inv.leaves
+        ap (λ (k : ℕ). cond (eqb k 0) buf (from k)) is ∙ ap (λ (k : ℕ). inserted_from mode back_start end k at buf) m ∙ inv.leaves
 
-    pub inserted_broken : (stop : Bool) → n ≡ 0 → EntriesInserted stop mode back_offset_lem end entries buf₀ buf true
+    pub inserted_broken : (stop : Bool) → n ≡ 0 → EntriesInserted stop mode back_start end entries buf₀ buf true
     inserted_broken stop z = record { leaves = λ _. sym (ap (λ (b : Bool). cond b buf (from n)) (eq-eqb n 0 z)) ∙ next; unmet = not_met }
 
     -- the first meets none, and then the others
     abbrev Both : ℕ → Type 0
-    Both k = RowUnmet buf end (entry_hash buf at k) at × UnmetFrom mode back_offset_lem end (left - 1) (at + (8 + k))
-        (entry_inserted mode back_offset_lem buf at k)
+    Both k = RowUnmet buf end (entry_hash buf at k) at × UnmetFrom mode back_start end (left - 1) (at + (8 + k))
+        (entry_inserted mode back_start buf at k)
 
-    unmet_next : met ≡ false → Both n → UnmetFrom mode back_offset_lem end entries 2072 buf₀
+    unmet_next : met ≡ false → Both n → UnmetFrom mode back_start end entries 2072 buf₀
     unmet_next z two =
         let m : suc (left - 1) ≡ left = omega arith in
-        inv.unmet z (subst (λ (k : ℕ). UnmetFrom mode back_offset_lem end k at buf) m (subst Both is two))
+        inv.unmet z (subst (λ (k : ℕ). UnmetFrom mode back_start end k at buf) m (subst Both is two))
 
     pub inserted_step : (n ≡ 0 → ⊥) → at + (8 + n) ≤ end → (buf' : List ℕ) → length buf' ≡ length buf → {one : Bool}
-        → EntryInserted mode back_offset_lem buf end at n buf' one → Inserting mode back_offset_lem end entries buf₀ buf' (at + (8 + n)) (left - 1)
+        → EntryInserted mode back_start buf end at n buf' one → Inserting mode back_start end entries buf₀ buf' (at + (8 + n)) (left - 1)
         (met || one)
     inserted_step some before buf' same {one} done = record {
       inside = before;
       long = same ∙ inv.long;
       leaves =
-          ap (inserted_from mode back_offset_lem end (left - 1) (at + (8 + n))) done.leaves
+          ap (inserted_from mode back_start end (left - 1) (at + (8 + n))) done.leaves
           ∙ sym (ap (λ (b : Bool). cond b buf (from n)) (ne_eqb n 0 some))
           ∙ next;
       unmet = λ z rest. unmet_next (or_false_first met one z)
-          (done.unmet (or_false_second met one z), subst (UnmetFrom mode back_offset_lem end (left - 1) (at + (8 + n))) done.leaves rest);
+          (done.unmet (or_false_second met one z), subst (UnmetFrom mode back_start end (left - 1) (at + (8 + n))) done.leaves rest);
     }
 
-  pub inserted_all : (stop : Bool) → left ≡ 0 → EntriesInserted stop mode back_offset_lem end entries buf₀ buf met
+  pub inserted_all : (stop : Bool) → left ≡ 0 → EntriesInserted stop mode back_start end entries buf₀ buf met
   unfolding inserted_from
   inserted_all stop e =
       record {
-        leaves = λ _. sym (ap (λ (k : ℕ). inserted_from mode back_offset_lem end k at buf) e) ∙ inv.leaves;
-        unmet = λ z. inv.unmet z (subst (λ (k : ℕ). UnmetFrom mode back_offset_lem end k at buf) (sym e) tt);
+        leaves = λ _. sym (ap (λ (k : ℕ). inserted_from mode back_start end k at buf) e) ∙ inv.leaves;
+        unmet = λ z. inv.unmet z (subst (λ (k : ℕ). UnmetFrom mode back_start end k at buf) (sym e) tt);
       }
 
 -- from cleared tables and back array
-pub inserted_in : {stop : Bool} (mode : Mode) (back_offset_lem end entries size : ℕ) (buf : List ℕ) {b1 b2 : List ℕ} {met : Bool}
-    → b1 ≡ sets buf end (replicate (size - end) 0) → EntriesInserted stop mode back_offset_lem end entries b1 b2 met
-    → SinglyDone stop mode back_offset_lem end entries size buf b2 met
+pub inserted_in : {stop : Bool} (mode : Mode) (back_start end entries size : ℕ) (buf : List ℕ) {b1 b2 : List ℕ} {met : Bool}
+    → b1 ≡ sets buf end (replicate (size - end) 0) → EntriesInserted stop mode back_start end entries b1 b2 met
+    → SinglyDone stop mode back_start end entries size buf b2 met
 unfolding zeroed
-inserted_in {stop} mode back_offset_lem end entries size buf {b1} {b2} {met} p q =
-    subst (λ (b : List ℕ). EntriesInserted stop mode back_offset_lem end entries b b2 met) p q
+inserted_in {stop} mode back_start end entries size buf {b1} {b2} {met} p q =
+    subst (λ (b : List ℕ). EntriesInserted stop mode back_start end entries b b2 met) p q

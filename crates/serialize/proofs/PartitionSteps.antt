@@ -50,53 +50,53 @@ table_offsets_end counts p x o t i e = e
 
 -- ---- entries
 
-pub entry_partitioned : (mode : Mode) (back_offset_lem at id h : ℕ) (places buf : List ℕ) {places' b1 b2 : List ℕ} → PairAppended places buf h at places' b1
-    → b2 ≡ back_stored mode b1 back_offset_lem id at → EntryPartitioned mode back_offset_lem at id h places buf places' b2
+pub entry_partitioned : (mode : Mode) (back_start at id h : ℕ) (places buf : List ℕ) {places' b1 b2 : List ℕ} → PairAppended places buf h at places' b1
+    → b2 ≡ back_stored mode b1 back_start id at → EntryPartitioned mode back_start at id h places buf places' b2
 unfolding partitioned
-entry_partitioned mode back_offset_lem at id h places buf p q =
-    record { stored = q ∙ ap (λ (l : List ℕ). back_stored mode l back_offset_lem id at) p.stored; moved = p.moved }
+entry_partitioned mode back_start at id h places buf p q =
+    record { stored = q ∙ ap (λ (l : List ℕ). back_stored mode l back_start id at) p.stored; moved = p.moved }
 
 -- the entries from the one at `at` on, partitioned in this buffer, leave what all entries leave
-pub record Partitioning (mode : Mode) (back_offset_lem end entries : ℕ) (places₀ buf₀ places buf : List ℕ) (at left : ℕ) : Type 0 where
+pub record Partitioning (mode : Mode) (back_start end entries : ℕ) (places₀ buf₀ places buf : List ℕ) (at left : ℕ) : Type 0 where
   pub inside : at ≤ end
   pub long : length buf ≡ length buf₀
-  pub leaves : partitioned_from mode back_offset_lem end left at places buf ≡ partitioned_from mode back_offset_lem end entries 2072 places₀ buf₀
+  pub leaves : partitioned_from mode back_start end left at places buf ≡ partitioned_from mode back_start end entries 2072 places₀ buf₀
 
-module _ {mode : Mode} {back_offset_lem end entries : ℕ} {places₀ buf₀ places buf : List ℕ} {at left : ℕ}
-    (inv : Partitioning mode back_offset_lem end entries places₀ buf₀ places buf at left) where
+module _ {mode : Mode} {back_start end entries : ℕ} {places₀ buf₀ places buf : List ℕ} {at left : ℕ}
+    (inv : Partitioning mode back_start end entries places₀ buf₀ places buf at left) where
   abbrev from : ℕ → List ℕ
   from n =
       let h = entry_hash buf at n in
-      partitioned_from mode back_offset_lem end (left - 1) (at + (8 + n)) (advanced places h) (partitioned mode back_offset_lem places buf at (word buf at) h)
+      partitioned_from mode back_start end (left - 1) (at + (8 + n)) (advanced places h) (partitioned mode back_start places buf at (word buf at) h)
 
   module _ {n : ℕ} (more : 0 < left) (is : n ≡ whole_length (between buf at end)) where
-    next : cond (eqb n 0) buf (from n) ≡ partitioned_from mode back_offset_lem end entries 2072 places₀ buf₀
+    next : cond (eqb n 0) buf (from n) ≡ partitioned_from mode back_start end entries 2072 places₀ buf₀
     unfolding partitioned_from
     next =
         let m : suc (left - 1) ≡ left = omega arith in
-        ap (λ (k : ℕ). cond (eqb k 0) buf (from k)) is ∙ ap (λ (k : ℕ). partitioned_from mode back_offset_lem end k at places buf) m ∙ inv.leaves
+        ap (λ (k : ℕ). cond (eqb k 0) buf (from k)) is ∙ ap (λ (k : ℕ). partitioned_from mode back_start end k at places buf) m ∙ inv.leaves
 
-    pub partitioned_broken : n ≡ 0 → buf ≡ partitioned_from mode back_offset_lem end entries 2072 places₀ buf₀
+    pub partitioned_broken : n ≡ 0 → buf ≡ partitioned_from mode back_start end entries 2072 places₀ buf₀
     partitioned_broken z = sym (ap (λ (b : Bool). cond b buf (from n)) (eq-eqb n 0 z)) ∙ next
 
     pub partitioned_step : (n ≡ 0 → ⊥) → at + (8 + n) ≤ end → (places' buf' : List ℕ) → length buf' ≡ length buf → {id h : ℕ} → id ≡ word buf at
-        → h ≡ entry_hash buf at n → EntryPartitioned mode back_offset_lem at id h places buf places' buf'
-        → Partitioning mode back_offset_lem end entries places₀ buf₀ places' buf' (at + (8 + n)) (left - 1)
+        → h ≡ entry_hash buf at n → EntryPartitioned mode back_start at id h places buf places' buf'
+        → Partitioning mode back_start end entries places₀ buf₀ places' buf' (at + (8 + n)) (left - 1)
     partitioned_step some before places' buf' same {id} {h} ei eh done = record {
       inside = before;
       long = same ∙ inv.long;
       leaves =
-          ap₂ (λ (q l : List ℕ). partitioned_from mode back_offset_lem end (left - 1) (at + (8 + n)) q l) done.moved done.stored
-          ∙ ap₂ (λ (i k : ℕ). partitioned_from mode back_offset_lem end (left - 1) (at + (8 + n)) (advanced places k)
-          (partitioned mode back_offset_lem places buf at i k))
+          ap₂ (λ (q l : List ℕ). partitioned_from mode back_start end (left - 1) (at + (8 + n)) q l) done.moved done.stored
+          ∙ ap₂ (λ (i k : ℕ). partitioned_from mode back_start end (left - 1) (at + (8 + n)) (advanced places k)
+          (partitioned mode back_start places buf at i k))
           ei eh
           ∙ sym (ap (λ (b : Bool). cond b buf (from n)) (ne_eqb n 0 some))
           ∙ next;
     }
 
-  pub partitioned_all : left ≡ 0 → buf ≡ partitioned_from mode back_offset_lem end entries 2072 places₀ buf₀
+  pub partitioned_all : left ≡ 0 → buf ≡ partitioned_from mode back_start end entries 2072 places₀ buf₀
   unfolding partitioned_from
-  partitioned_all z = ap (λ (k : ℕ). partitioned_from mode back_offset_lem end k at places buf) (sym z) ∙ inv.leaves
+  partitioned_all z = ap (λ (k : ℕ). partitioned_from mode back_start end k at places buf) (sym z) ∙ inv.leaves
 
 -- ---- tables
 

@@ -63,7 +63,7 @@ pub check_entries-found-requires : goal.check_entries-found-requires
 check_entries-found-requires c =
     record {
       area = c.requires.area;
-      back_words_lem = omega (arith, c.requires.area.small, c.ranges.n);
+      back_word_of = omega (arith, c.requires.area.small, c.ranges.n);
       tables = rows_held (c.args.image.now) c.args.end c.requires.tables (omega (arith, c.requires.area.from))
           (rows (goal.at.check_entries-found-requires c).Else-not-check_rows);
       zeros = zeros 256;

@@ -44,7 +44,7 @@ returns-then-size-behind c =
 pub returns-then-size_or_zero-offset_or_zero : goal.returns-then-size_or_zero-offset_or_zero
 returns-then-size_or_zero-offset_or_zero c =
     refused (goal.at.returns-then-size_or_zero-offset_or_zero c).After-size_or_zero-size
-    (λ k. c.if-size_or_zero-offset_or_zero.true (c.size_or_zero.ensures.is ∙ k.back_offset_lem
+    (λ k. c.if-size_or_zero-offset_or_zero.true (c.size_or_zero.ensures.is ∙ k.back_start
     ∙ sym (wanted (goal.at.returns-then-size_or_zero-offset_or_zero c).After-offset_or_zero)))
 
 pub check_body-requires : goal.check_body-requires

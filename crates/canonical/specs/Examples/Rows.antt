@@ -58,8 +58,8 @@ pub record HeadOnly : Type 0 where
   pub answer : Bool
 
 abbrev head_only : ℕ → ℕ → ℕ → ℕ → Bool → HeadOnly
-head_only size flag back back_words_lem answer =
-    record { bytes = head_bytes size flag back back_words_lem ++ replicate 2048 0; answer = answer }
+head_only size flag back back_word_of answer =
+    record { bytes = head_bytes size flag back back_word_of ++ replicate 2048 0; answer = answer }
 
 abbrev pub head_only_rows : List HeadOnly
 head_only_rows =

@@ -139,5 +139,5 @@ pub record Checked (img : List ℕ) (n : ℕ) : Type 0 where
   pub size : word img 4 ≡ length img
   pub flag : word img 8 ≤ 1
   pub room : head_size + (16 * n + 4 * back_size_at img) ≤ length img
-  pub back_offset_lem : back_offset_at img ≡ cond (eqb (back_size_at img) 0) 0 (end_in img n + 16 * n)
+  pub back_start : back_offset_at img ≡ cond (eqb (back_size_at img) 0) 0 (end_in img n + 16 * n)
   pub body : body_ok img n (end_in img n) (back_size_at img) ≡ true

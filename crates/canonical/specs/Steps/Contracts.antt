@@ -47,7 +47,7 @@ pub record OneIf (w at r : ℕ) : Type 0 where
 
 pub record CheckEntriesPre (img : List ℕ) (end o : ℕ) (counts : List ℕ) : Type 0 where
   pub area : Area img end
-  pub back_words_lem : o < 2 ^ 48
+  pub back_word_of : o < 2 ^ 48
   pub tables : TablesHeld img
   pub zeros : (t : ℕ) → get_or counts t 0 ≡ 0
 

@@ -52,11 +52,11 @@ pub record TableMatches (n : ℕ) (slots : ℕ → Bucket) (bs : List Bucket) : 
 
 -- how many entries have their own offset in their id's back word
 abbrev pub own_back_words : (ℕ → ℕ) → List Placed → ℕ
-own_back_words back_words_lem ps = in_cells (λ (p : Placed). p.entry.id) (λ (p : Placed). p.at) back_words_lem ps
+own_back_words back_word_of ps = in_cells (λ (p : Placed). p.entry.id) (λ (p : Placed). p.at) back_word_of ps
 
 -- n back words that are those of these entries
-pub record BackArrayMatches (n : ℕ) (back_words_lem : ℕ → ℕ) (ps : List Placed) : Type 0 where
+pub record BackArrayMatches (n : ℕ) (back_word_of : ℕ → ℕ) (ps : List Placed) : Type 0 where
   -- the back word of each entry's id is its offset or a later one
-  pub ahead : Each (λ (p : Placed). p.at ≤ back_words_lem p.entry.id) ps
+  pub ahead : Each (λ (p : Placed). p.at ≤ back_word_of p.entry.id) ps
   -- as many back words are above 0 as entries have their own offset in their id's back word
-  pub used : used_to back_words_lem n ≡ own_back_words back_words_lem ps
+  pub used : used_to back_word_of n ≡ own_back_words back_word_of ps

@@ -1,10 +1,11 @@
 -- `catalogue::build` meets its contract. Assumes nothing.
 use Rattle.std.proofs.Common.{ap, ◌≤◌, ◌<◌, length, IfSome}
+use Rattle.std.proofs.lemmas.Result.{on_ok_weaker}
 use Rattle.image.specs.Image.{head_size}
 use Rattle.writer.specs.State.{begun_of}
 use Rattle.writer.specs.Close.{closed_of}
 use Rattle.catalogue.specs.Left.{IsBuiltOf}
-use Rattle.catalogue.proofs.BuiltImage.{begin_accepted, built, never_refused, built_whole, ok_kept}
+use Rattle.catalogue.proofs.BuiltImage.{begin_accepted, built, never_refused, built_whole}
 use Rattle.catalogue.proofs.build.Goals as goal
 
 pub returns-in_default-clause-built : goal.returns-in_default-clause-built
@@ -26,7 +27,7 @@ returns-in_default-answer-clause-built g c =
 pub returns-in_default-answer-clause-whole : goal.returns-in_default-answer-clause-whole
 returns-in_default-answer-clause-whole g c =
     let a = c.args in
-    ok_kept
+    on_ok_weaker
     {
     Q = head_size ≤ length a.buf.now → length a.buf.now ≤ length a.room.now → 0 < length a.piece.now
     → IfSome (g.R.Read.remaining a.input.now)
@@ -50,7 +51,7 @@ returns-clause-built g c =
 pub returns-clause-whole : goal.returns-clause-whole
 returns-clause-whole g c =
     let a = c.args in
-    ok_kept
+    on_ok_weaker
     {
     Q = head_size ≤ length a.buf.now → length a.buf.now ≤ length a.room.now → 0 < length a.piece.now
     → IfSome (g.R.Read.remaining a.input.now)

@@ -51,7 +51,7 @@ back_array img = map (λ (i : ℕ). word img (back_offset_at img + 4 * i)) (rang
 -- a row holds of an image, and of a buffer
 pub record ImageHolds (r : ListRow) (img : List ℕ) : Type 0 where
   pub opened : opening img ≡ value r.number
-  pub back_offset_lem : back_offset_at img ≡ r.back_offset
+  pub back_start : back_offset_at img ≡ r.back_offset
   pub back_array_lem : back_array img ≡ r.back_words
   pub named : Each (λ (a : NameGives). found_id (lookup img a.name) ≡ a.gives) r.names
   pub placed : Each (λ (a : IdGives). (name_given img a.id ≡ a.gives) × (home img a.id ≡ a.is_home))

@@ -45,10 +45,10 @@ pub record EntryPre (at n : ℕ) (buf : List ℕ) : Type 0 where
   pub offset_word : at < 4294967296
 
 -- and there is a back array at back-offset, and the entries end at `end`
-pub record InsertEntryPre (back_offset_lem end at n : ℕ) (buf : List ℕ) : Type 0 where
+pub record InsertEntryPre (back_start end at n : ℕ) (buf : List ℕ) : Type 0 where
   pub entry : EntryPre at n buf
   pub front : end ≤ length buf
-  pub back_word : back_offset_lem < 4294967296
+  pub back_word : back_start < 4294967296
 
 -- the hash of its name
 unfoldable pub entry_hash : List ℕ → ℕ → ℕ → ℕ
@@ -56,27 +56,27 @@ entry_hash buf at n = hash_of (take (n - 1) (drop (at + 8) buf))
 
 -- its offset stored under its id in the back array, which begins at back-offset
 abbrev pub back_stored : Mode → List ℕ → ℕ → ℕ → ℕ → List ℕ
-back_stored Twoway buf back_offset_lem id at = sets buf (back_offset_lem + 4 * id) (le32 at)
-back_stored Oneway buf back_offset_lem id at = buf
+back_stored Twoway buf back_start id at = sets buf (back_start + 4 * id) (le32 at)
+back_stored Oneway buf back_start id at = buf
 
 -- the entry inserted into its table and the back array
 unfoldable pub entry_inserted : Mode → ℕ → List ℕ → ℕ → ℕ → List ℕ
-entry_inserted mode back_offset_lem buf at n =
-    back_stored mode (inserted_by_row buf (entry_hash buf at n) at) back_offset_lem (word buf at) at
+entry_inserted mode back_start buf at n =
+    back_stored mode (inserted_by_row buf (entry_hash buf at n) at) back_start (word buf at) at
 
 -- ---- all entries
 
 -- the entries end in the buffer
-pub record InsertEntriesPre (back_offset_lem end : ℕ) (buf : List ℕ) : Type 0 where
+pub record InsertEntriesPre (back_start end : ℕ) (buf : List ℕ) : Type 0 where
   pub low : 2072 ≤ end
   pub inside : end ≤ length buf
   pub end_word : end < 4294967296
-  pub back_word : back_offset_lem < 4294967296
+  pub back_word : back_start < 4294967296
 
 -- m entries inserted, one after the other
 unfoldable pub inserted_from : Mode → ℕ → ℕ → ℕ → ℕ → List ℕ → List ℕ
-inserted_from mode back_offset_lem end zero at buf = buf
-inserted_from mode back_offset_lem end (suc m) at buf =
+inserted_from mode back_start end zero at buf = buf
+inserted_from mode back_start end (suc m) at buf =
     let n = whole_length (between buf at end) in
-    cond (n == 0) buf (inserted_from mode back_offset_lem end m (at + (8 + n))
-    (entry_inserted mode back_offset_lem buf at n))
+    cond (n == 0) buf (inserted_from mode back_start end m (at + (8 + n))
+    (entry_inserted mode back_start buf at n))

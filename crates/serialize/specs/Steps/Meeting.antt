@@ -81,24 +81,24 @@ pub record RowInserted (buf : List ℕ) (end h at : ℕ) (after : List ℕ) (met
   pub leaves : after ≡ inserted_by_row buf h at
   pub unmet : met ≡ false → RowUnmet buf end h at
 
-pub record EntryInserted (mode : Mode) (back_offset_lem : ℕ) (buf : List ℕ) (end at n : ℕ) (after : List ℕ) (met : Bool)
+pub record EntryInserted (mode : Mode) (back_start : ℕ) (buf : List ℕ) (end at n : ℕ) (after : List ℕ) (met : Bool)
     : Type 0 where
-  pub leaves : after ≡ entry_inserted mode back_offset_lem buf at n
+  pub leaves : after ≡ entry_inserted mode back_start buf at n
   pub unmet : met ≡ false → RowUnmet buf end (entry_hash buf at n) at
 
 -- m entries from `at` on meet none
 abbrev pub UnmetFrom : Mode → ℕ → ℕ → ℕ → ℕ → List ℕ → Type 0
-UnmetFrom mode back_offset_lem end zero at buf = Unit {0}
-UnmetFrom mode back_offset_lem end (suc m) at buf =
+UnmetFrom mode back_start end zero at buf = Unit {0}
+UnmetFrom mode back_start end (suc m) at buf =
     let n = whole_length (between buf at end) in
     RowUnmet buf end (entry_hash buf at n) at
-    × UnmetFrom mode back_offset_lem end m (at + (8 + n)) (entry_inserted mode back_offset_lem buf at n)
+    × UnmetFrom mode back_start end m (at + (8 + n)) (entry_inserted mode back_start buf at n)
 
-pub record EntriesInserted (stop : Bool) (mode : Mode) (back_offset_lem end entries : ℕ) (buf after : List ℕ)
+pub record EntriesInserted (stop : Bool) (mode : Mode) (back_start end entries : ℕ) (buf after : List ℕ)
     (met : Bool)
     : Type 0 where
-  pub leaves : (stop && met) ≡ false → after ≡ inserted_from mode back_offset_lem end entries head_size buf
-  pub unmet : met ≡ false → UnmetFrom mode back_offset_lem end entries head_size buf
+  pub leaves : (stop && met) ≡ false → after ≡ inserted_from mode back_start end entries head_size buf
+  pub unmet : met ≡ false → UnmetFrom mode back_start end entries head_size buf
 
 -- ---- by tables
 
@@ -125,13 +125,13 @@ pub record TablesDone (stop : Bool) (counts : List ℕ) (end : ℕ) (buf after :
 
 -- one by one, into tables and a back array that were cleared
 abbrev pub SinglyDone : Bool → Mode → ℕ → ℕ → ℕ → ℕ → List ℕ → List ℕ → Bool → Type 0
-SinglyDone stop mode back_offset_lem end entries size buf after met =
-    EntriesInserted stop mode back_offset_lem end entries (zeroed buf end size) after met
+SinglyDone stop mode back_start end entries size buf after met =
+    EntriesInserted stop mode back_start end entries (zeroed buf end size) after met
 
 -- by either way
 abbrev pub AllDone : Bool → Mode → ℕ → ℕ → ℕ → ℕ → List ℕ → List ℕ → List ℕ → Bool → Type 0
-AllDone stop mode back_offset_lem end entries size counts buf after met =
-    TablesDone stop counts end buf after met ⊎ SinglyDone stop mode back_offset_lem end entries size buf after met
+AllDone stop mode back_start end entries size counts buf after met =
+    TablesDone stop counts end buf after met ⊎ SinglyDone stop mode back_start end entries size buf after met
 
 pub record ImageWritten (mode : Mode) (end entries back : ℕ) (buf after : List ℕ) (met : Bool) : Type 0 where
   pub leaves : after ≡ serialized mode end entries back buf

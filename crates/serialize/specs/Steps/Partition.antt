@@ -35,23 +35,23 @@ pub record PairAppended (places buf : List ℕ) (h at : ℕ) (places' buf' : Lis
 
 -- an entry of this id and hash at `at`: its pair stored, and its offset in the back array
 unfoldable pub partitioned : Mode → ℕ → List ℕ → List ℕ → ℕ → ℕ → ℕ → List ℕ
-partitioned mode back_offset_lem places buf at id h =
-    back_stored mode (pair_put buf (slice_index places (table_of h)) h at) back_offset_lem id at
+partitioned mode back_start places buf at id h =
+    back_stored mode (pair_put buf (slice_index places (table_of h)) h at) back_start id at
 
-pub record EntryPartitioned (mode : Mode) (back_offset_lem at id h : ℕ) (places buf places' buf' : List ℕ) : Type 0
+pub record EntryPartitioned (mode : Mode) (back_start at id h : ℕ) (places buf places' buf' : List ℕ) : Type 0
   where
-    pub stored : buf' ≡ partitioned mode back_offset_lem places buf at id h
+    pub stored : buf' ≡ partitioned mode back_start places buf at id h
     pub moved : places' ≡ advanced places h
 
 -- and so m entries that stand from `at` on, one after the other
 unfoldable pub partitioned_from : Mode → ℕ → ℕ → ℕ → ℕ → List ℕ → List ℕ → List ℕ
-partitioned_from mode back_offset_lem end zero at places buf = buf
-partitioned_from mode back_offset_lem end (suc m) at places buf =
+partitioned_from mode back_start end zero at places buf = buf
+partitioned_from mode back_start end (suc m) at places buf =
     let n = whole_length (between buf at end) in
     let h = entry_hash buf at n in
     cond (n == 0) buf
-    (partitioned_from mode back_offset_lem end m (at + (8 + n)) (advanced places h)
-    (partitioned mode back_offset_lem places buf at (word buf at) h))
+    (partitioned_from mode back_start end m (at + (8 + n)) (advanced places h)
+    (partitioned mode back_start places buf at (word buf at) h))
 
 -- ---- the tables filled
 

@@ -61,9 +61,9 @@ abbrev pub by_tables : List ℕ → ℕ → Bool
 by_tables counts entries = nat_le 1024 entries && none_above counts 4608
 
 -- the entries end in the image, and the image in the buffer
-pub record FillAllPre (back_offset_lem end size : ℕ) (buf : List ℕ) : Type 0 where
+pub record FillAllPre (back_start end size : ℕ) (buf : List ℕ) : Type 0 where
   pub low : 2072 ≤ end
   pub within : end ≤ size
   pub inside : size ≤ length buf
   pub size_word : size < 4294967296
-  pub back_word : back_offset_lem < 4294967296
+  pub back_word : back_start < 4294967296

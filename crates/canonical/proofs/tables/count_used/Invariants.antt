@@ -6,7 +6,7 @@ use Rattle.canonical.proofs.TableLoops.{Used}
 use Rattle.canonical.proofs.tables.count_used.Given as goal
 
 pub record Counting (img : List ℕ) (o n used k : ℕ) : Type 0 where
-  pub back_words_lem : Used (back_word_at img o) k used
+  pub back_word_of : Used (back_word_at img o) k used
   pub inside : k ≤ n
 
 abbrev pub invariant-loop-k : goal.invariant-loop-k
