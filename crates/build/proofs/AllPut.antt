@@ -1,5 +1,5 @@
 -- A list of puts of which none is refused: the entries are all names with their ids, and one close leaves their image. Assumes nothing.
-use Prim.Native.Nat.{ℕ, suc, ◌+◌, ◌*◌, ◌-◌, ◌^◌, ◌≤◌, ◌<◌}
+use Prim.Native.Nat.{ℕ, suc, ◌+◌, ◌*◌, ◌^◌, ◌≤◌, ◌<◌}
 use native.Mathlib.Omega.{arith}
 use mathlib.Core.Path.{◌≡◌, refl, sym, ap, ap₂, ◌∙◌}
 use mathlib.Core.Bool.{Bool, true, false, cond, ◌||◌, ◌&&◌, and-false, or-false, or_assoc}
@@ -134,7 +134,8 @@ module _ (mode : Mode) (repeats : Repeats) (n : ℕ) where
     free_due : put_due mode repeats n es e ≡ 0
     unfolding put_due
     free_due =
-        decided (has_zero x) (contains_name x es && refuses_repeats repeats) (too_large n (size_of mode next)) (f.zeros 0 (omega arith)) free_new free_room
+        decided (has_zero x) (contains_name x es && refuses_repeats repeats) (too_large n (size_of mode next)) (f.zeros 0 (omega arith)) free_new
+        free_room
       where
         decided : (z h t : Bool) → z ≡ false → h ≡ false → t ≡ false → ◌≡◌ {A = ℕ} (cond z 13 (cond h 16 (cond t 3 0))) 0
         decided z h t p q r = rw (p, q, r) refl

@@ -89,7 +89,7 @@ accepted_most mode repeats n es (x ∷ xs) (id ∷ ids) =
     let more = accepted_most mode repeats n (es ++ e ∷ []) xs ids in
     let none = accepted_most mode repeats n es xs ids in
     let same = ap (λ (l : List Entry). image_size mode (accepted_from mode repeats n l (calls_of xs ids))) (append-nil es) in
-    cond_holds (λ (l : List Entry). image_size mode (accepted_from mode repeats n (es ++ l) (calls_of xs ids)) ≤ image_size mode
-    (es ++ e ∷ entries_listed xs ids))
+    cond_holds
+    (λ (l : List Entry). image_size mode (accepted_from mode repeats n (es ++ l) (calls_of xs ids)) ≤ image_size mode (es ++ e ∷ entries_listed xs ids))
     (eqb (put_due mode repeats n es e) 0) (omega (arith, more, ap (image_size mode) (append_assoc es (e ∷ []) (entries_listed xs ids))))
     (omega (arith, same, none, size_more mode es e (entries_listed xs ids)))

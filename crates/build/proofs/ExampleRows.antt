@@ -54,8 +54,8 @@ holds_in r c buffer places long many =
     )
 
 computed : All Computed build_rows
-unfolding accepted accepted_from due due_from put_due has_zero contains_name same size_of puts_size back_size names names_from invalid_ends calls_of
-    build_refusal
+unfolding accepted accepted_from due due_from put_due has_zero contains_name same size_of puts_size back_size names names_from
+    invalid_ends calls_of build_refusal
 computed = (
   (lit≤ tt, refl, (tt, (tt, (tt, (tt, tt)))), refl, refl, refl),
   (

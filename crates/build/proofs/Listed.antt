@@ -42,10 +42,10 @@ back_listed (x ∷ xs) [] h = absurd (omega arith)
 back_listed (x ∷ xs) (id ∷ ids) h = omega (arith, back_listed xs ids (omega arith))
 
 -- ids that are words
-pub back_word_of : (ids : List ℕ) (top n : ℕ) → ((i : ℕ) → i < n → get_or ids i 0 < top) → ids_back (take n ids) ≤ top
+pub back_words_lem : (ids : List ℕ) (top n : ℕ) → ((i : ℕ) → i < n → get_or ids i 0 < top) → ids_back (take n ids) ≤ top
 unfolding ids_back
-back_word_of ids top zero h = omega arith
-back_word_of [] top (suc n) h = omega arith
-back_word_of (id ∷ ids) top (suc n) h =
+back_words_lem ids top zero h = omega arith
+back_words_lem [] top (suc n) h = omega arith
+back_words_lem (id ∷ ids) top (suc n) h =
     let first : id < top = h 0 (omega arith) in
-    omega (arith, back_word_of ids top n (λ i k. h (suc i) (omega arith)))
+    omega (arith, back_words_lem ids top n (λ i k. h (suc i) (omega arith)))

@@ -148,8 +148,8 @@ module _ {mode : Mode} {counts hashes buffer bytes ends ids : List ℕ} (pre : W
             ∙ ap (λ (k : ℕ). begun_image mode k entries back counts buffer) ee
             ∙ ap₂ (λ (k j : ℕ). begun_image mode (entries_end es) k j counts buffer) en eb
             ∙ begun_is mode (entries_end es) (length es) (back_size_of mode es) counts buffer es N
-            ∙ ap (λ (k : ℕ). head_words mode es ++ table_rows (entries_end es) (placed_in es) ++ E ++ X ++ back_words [] (back_size_of mode es) ++ drop k
-            buffer)
+            ∙ ap
+            (λ (k : ℕ). head_words mode es ++ table_rows (entries_end es) (placed_in es) ++ E ++ X ++ back_words [] (back_size_of mode es) ++ drop k buffer)
             (size_is mode (entries_end es) (length es) (back_size_of mode es) counts buffer es N);
       }
 

@@ -174,8 +174,8 @@ module _ (s : State) (words : List ℕ) where
     index_full l = unchanged (rw (eq-eqb (close_refusal s) 0 closes, lt-ltb (slot_count words) s.writer.entries l) refl) (λ z. omega (arith, z))
 
     -- cleared, then filled with the entries
-    module _ (cleared words' : List ℕ) (long : length cleared ≡ length words) (last : (i : ℕ) → 2 * slot_count words ≤ i
-        → get_or cleared i 0 ≡ get_or words i 0)
+    module _ (cleared words' : List ℕ) (long : length cleared ≡ length words)
+        (last : (i : ℕ) → 2 * slot_count words ≤ i → get_or cleared i 0 ≡ get_or words i 0)
         (fills : SlotsFilled s.buffer s.writer.end s.writer.entries cleared words') (room : s.writer.entries ≤ slot_count words) where
       is_made : 0 ≡ index_refusal s words
       unfolding index_refusal

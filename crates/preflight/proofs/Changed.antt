@@ -1,17 +1,17 @@
 -- The questions of what changed, each by what it asks, and all questions. Assumes nothing.
-use Prim.Native.Nat.{ℕ, ◌+◌, ◌≤◌, ◌<◌}
+use Prim.Native.Nat.{ℕ, ◌<◌}
 use native.Mathlib.Omega.{arith}
 use native.Mathlib.Decide.{dec_lt}
 use mathlib.Core.Path.{◌≡◌, refl, sym, ap, ◌∙◌}
-use mathlib.Core.Bool.{Bool, true, false, cond}
+use mathlib.Core.Bool.{Bool, true, cond}
 use mathlib.Core.List.{List}
-use mathlib.Core.Option.{none, some}
+use mathlib.Core.Option.{some}
 use Rattle.reader.specs.Naming.{name_given}
 use Rattle.reader.specs.IdWalk.{upper_hint}
 use Rattle.preflight.specs.Names.{first_renamed}
 use Rattle.preflight.specs.Exchanges.{some_kept_in, first_taken_in}
 use Rattle.preflight.specs.Verdicts.{is_whole, and_then, of_renamed, of_taken, of_changes, verdict_first, verdict}
-use Rattle.preflight.specs.Theorems.Asked.{In, Whole, SomeAlike, NotRenamed, NotTaken, MayLeave}
+use Rattle.preflight.specs.Theorems.Asked.{Whole, SomeAlike, NotRenamed, NotTaken, MayLeave}
 use Rattle.preflight.specs.declared.Place.{Place}
 use Rattle.preflight.specs.declared.Taken.TheVariants as taken
 use Rattle.preflight.specs.declared.Verdict.{Verdict}

@@ -1,5 +1,5 @@
 -- The worked examples of dates hold: they are computed. Assumes nothing.
-use mathlib.Core.Path.{◌≡◌, refl}
+use mathlib.Core.Path.{refl}
 use Rattle.image.proofs.AllOfList.{All}
 use Rattle.validity.specs.Calendar.{leap, one_of, month_length, is_date, is_end, earlier}
 use Rattle.validity.specs.Rule.{some_window, invalid_dates, inverted, holds_date}

@@ -2,7 +2,7 @@
 use Prim.Native.Nat.{ℕ, suc, ◌+◌, ◌-◌, ◌/◌, ◌≤◌, ◌<◌}
 use native.Mathlib.Omega.{arith}
 use native.Mathlib.Numerals.{add-one}
-use mathlib.Core.Path.{◌≡◌, refl, sym, ap, ◌∙◌, subst}
+use mathlib.Core.Path.{◌≡◌, refl, sym, ap, ◌∙◌}
 use mathlib.Core.Logic.{inl, inr}
 use mathlib.Core.Bool.{Bool, true, false, cond, not}
 use mathlib.Core.List.{List, [], ◌∷◌, ◌++◌}
@@ -24,9 +24,9 @@ use Rattle.preflight.specs.Counts.{absent, unsighted_in}
 use Rattle.preflight.specs.OnSheet.{of_sheet}
 use Rattle.preflight.specs.Steps.Contracts.{OneOf}
 use Rattle.preflight.specs.Steps.Distinct.{distinct}
-use Rattle.preflight.specs.Theorems.Asked.{In, OnSheet}
+use Rattle.preflight.specs.Theorems.Asked.{In}
 use Rattle.preflight.specs.declared.Verdict.TheVariants.{Yes}
-use Rattle.preflight.proofs.Members.{in_occurs, occurs_in, passing_append, none_counted}
+use Rattle.preflight.proofs.Members.{passing_append, none_counted}
 use Rattle.preflight.proofs.Tallies.{others}
 use Rattle.preflight.proofs.Alone.{sheet_forth}
 

@@ -1,18 +1,15 @@
 -- The worked examples hold: the answers are computed from the puts. Assumes nothing.
-use Prim.Native.Nat.{ℕ, ◌≤◌, ◌<◌}
-use native.Mathlib.Omega.{arith}
-use mathlib.Core.Path.{◌≡◌, refl, sym, ap, ◌∙◌}
+use Prim.Native.Nat.{◌≤◌}
+use mathlib.Core.Path.{◌≡◌, refl, ◌∙◌}
 use mathlib.Core.Bool.{Bool, true, false, cond}
 use mathlib.Core.List.{List, [], ◌∷◌}
-use lib.Dec.{ltb, leb, lit<}
-use lib.ListN.{length}
+use lib.Dec.{ltb, leb}
 use borrow.Author.Tests.{ltb-true, leb-true}
 use Rattle.jhash.specs.Word.{word}
 use Rattle.image.specs.Bytes.{filter, same, cat, le32}
 use Rattle.image.specs.Image.{Entry, image_size, entries_size, back_size, image}
 use Rattle.image.specs.Zero.{has_zero}
-use Rattle.image.specs.declared.Mode.{Mode}
-use Rattle.image.specs.declared.Mode.TheVariants.{Twoway, Oneway}
+use Rattle.image.specs.declared.Mode.TheVariants.{Twoway}
 use Rattle.image.proofs.AllOfList.{All, all_map}
 use Rattle.image.proofs.Bools.{false_not_true}
 use Rattle.lookup_laws.specs.Answer.{of_id}

@@ -1,10 +1,9 @@
 -- What each verdict says (`specs/Theorems/Fails`): by the branch that gives it. Assumes nothing.
-use Prim.Native.Nat.{ℕ, zero, suc, ◌+◌, ◌≤◌, ◌<◌}
+use Prim.Native.Nat.{ℕ, zero, suc, ◌+◌}
 use native.Mathlib.Omega.{arith}
-use mathlib.Core.Path.{◌≡◌, refl, sym, ap, ◌∙◌, subst}
-use mathlib.Core.Logic.{◌⊎◌, inl, inr}
+use mathlib.Core.Path.{◌≡◌, refl, sym, ap, ◌∙◌}
 use mathlib.Core.Bool.{Bool, true, false, cond, not}
-use mathlib.Core.List.{List, [], ◌∷◌, ◌++◌}
+use mathlib.Core.List.{List, [], ◌∷◌}
 use mathlib.Core.Option.{Option, none, some}
 use lib.Dec.{eqb}
 use lib.ListN.{length, get_elem?}
@@ -12,16 +11,14 @@ use Rattle.reader.specs.Naming.{name_given}
 use Rattle.reader.specs.IdWalk.{upper_hint}
 use borrow.Author.Tests.{eqb-true, eqb-false}
 use Rattle.image.proofs.Bools.{false_not_true}
-use Rattle.preflight.specs.Ids.{is_id, occurs, first_place}
+use Rattle.preflight.specs.Ids.{occurs, first_place}
 use Rattle.preflight.specs.Names.{Names, is_empty, is_name, other_has, first_other, lost, renamed, first_renamed, nameless, first_nameless}
 use Rattle.preflight.specs.Exchanges.{shared_or, first_shared, first_shared_in, taker_of, taken_or, first_taken, first_taken_in}
 use Rattle.preflight.specs.Theorems.Asked.{In}
 use Rattle.preflight.specs.Theorems.Fails.{ShowsNameless, ShowsShared, ShowsRenamed, ShowsTaken}
 use Rattle.preflight.specs.declared.Place.{Place}
 use Rattle.preflight.specs.declared.Place.TheVariants as place
-use Rattle.preflight.specs.declared.Shared.{Shared}
 use Rattle.preflight.specs.declared.Shared.TheVariants as shared
-use Rattle.preflight.specs.declared.Taken.{Taken}
 use Rattle.preflight.specs.declared.Taken.TheVariants as taken
 use Rattle.preflight.proofs.Members.{at_nothing, in_occurs}
 use Rattle.preflight.proofs.Questions as asked

@@ -1,7 +1,7 @@
 -- What is proved of the dates of a report (`specs/Theorems/Held`). Assumes nothing.
 use Prim.Native.Nat.{ℕ}
 use native.Mathlib.Omega.{arith}
-use mathlib.Core.Path.{◌≡◌, refl, sym, ap, ◌∙◌}
+use mathlib.Core.Path.{◌≡◌, refl, sym, ap}
 use mathlib.Core.Logic.{◌↔◌, ◌⊎◌, inl, inr}
 use mathlib.Core.Bool.{Bool, true, false, cond, not, ◌&&◌}
 use mathlib.Core.List.{List, ◌∷◌, ◌++◌}
@@ -18,8 +18,7 @@ use Rattle.preflight.specs.Theorems.Asked.{In}
 use Rattle.preflight.specs.Theorems.Held.{Holds, DatesAccepted, DatesHeld}
 use Rattle.preflight.specs.declared.Place.{Place}
 use Rattle.preflight.specs.declared.Place.TheVariants as place
-use Rattle.preflight.specs.declared.dates.DatesAnswer.{DatesAnswer}
-use Rattle.preflight.specs.declared.dates.DatesAnswer.TheVariants.{Yes, Refused, Outside}
+use Rattle.preflight.specs.declared.dates.DatesAnswer.TheVariants.{Yes, Refused}
 use Rattle.preflight.proofs.Members.{none_passes, passes_none}
 use Rattle.preflight.proofs.Windows.{invalid_by, inverted_by, dates_by}
 

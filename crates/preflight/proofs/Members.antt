@@ -6,11 +6,10 @@ use mathlib.Core.Logic.{◌⊎◌, inl, inr}
 use mathlib.Core.Bool.{Bool, true, false, cond}
 use mathlib.Core.List.{List, [], ◌∷◌, ◌++◌}
 use lib.Dec.{eqb}
-use borrow.Author.Tests.{eq-eqb, ne_eqb, eqb-true, eqb-false}
+use borrow.Author.Tests.{eqb-true, eqb-false}
 use Rattle.image.proofs.Bools.{false_not_true}
 use Rattle.preflight.specs.Ids.{occurs, passing, count, first_place}
 use Rattle.preflight.specs.Theorems.Asked.{In}
-use Rattle.preflight.specs.declared.Place.{Place}
 use Rattle.preflight.specs.declared.Place.TheVariants.{At, Nothing}
 
 pub at_nothing : {P : Type 0} (p : ℕ) → At p ≡ Nothing → P

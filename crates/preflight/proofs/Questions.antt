@@ -9,22 +9,19 @@ use mathlib.Core.List.{List, [], ◌∷◌}
 use mathlib.Core.Option.{Option, none, some}
 use lib.Dec.{eqb}
 use lib.ListN.{length}
-use borrow.Author.Tests.{eq-eqb, ne_eqb, eqb-true, eqb-false, not-true, not-false}
-use Rattle.image.specs.Bytes.{same}
+use borrow.Author.Tests.{ne_eqb, eqb-true, eqb-false, not-true, not-false}
 use Rattle.image.proofs.Bools.{false_not_true}
 use Rattle.image.proofs.Equal.{same_self, same_true}
 use Rattle.preflight.specs.Ids.{occurs}
-use Rattle.preflight.specs.Names.{Names, is_empty, is_name, kept_name, kept, lost_name, lost, renamed, other_has, first_with_name, first_other}
-use Rattle.preflight.specs.Names.{nameless, first_nameless, first_renamed}
+use Rattle.preflight.specs.Names.{Names, is_empty, is_name, kept_name, kept, lost_name, lost, renamed, other_has, first_other}
+use Rattle.preflight.specs.Names.{first_renamed}
 use Rattle.preflight.specs.Exchanges.{shared_or, first_shared, some_kept, taker_of, taken_or, first_taken}
 use Rattle.preflight.specs.Theorems.Asked.{In}
 use Rattle.preflight.specs.declared.Place.{Place}
 use Rattle.preflight.specs.declared.Place.TheVariants as place
-use Rattle.preflight.specs.declared.Shared.{Shared}
 use Rattle.preflight.specs.declared.Shared.TheVariants as shared
-use Rattle.preflight.specs.declared.Taken.{Taken}
 use Rattle.preflight.specs.declared.Taken.TheVariants as taken
-use Rattle.preflight.proofs.Members.{at_nothing, occurs_in, in_occurs, none_passes, passes_none}
+use Rattle.preflight.proofs.Members.{occurs_in, in_occurs, none_passes, passes_none}
 
 pub none_some : {P : Type 0} (x : List ℕ) → none ≡ some x → P
 none_some x e = let z : ◌≡◌ {A = ℕ} 0 1 = cc in absurd (omega arith)

@@ -1,9 +1,8 @@
 -- What each verdict says (`specs/Theorems/Fails`), by the branch that gives it: from the last question to the first. Assumes nothing.
 use Prim.Native.Nat.{ℕ}
-use native.Mathlib.Omega.{arith}
 use mathlib.Core.Path.{◌≡◌, refl, sym, ap, ◌∙◌}
 use mathlib.Core.Bool.{Bool, true, false, cond}
-use mathlib.Core.List.{List, [], ◌∷◌, ◌++◌}
+use mathlib.Core.List.{List}
 use lib.Dec.{eqb}
 use lib.ListN.{length}
 use borrow.Author.Tests.{eqb-true, eqb-false}
@@ -17,7 +16,7 @@ use Rattle.preflight.specs.Exchanges.{first_shared_in, some_kept_in, first_taken
 use Rattle.preflight.specs.OnSheet.{off_sheet, first_off, of_off, of_sheet}
 use Rattle.preflight.specs.Verdicts.{is_whole, and_then, of_nameless, of_shared, of_renamed, of_taken, of_round, of_changes, verdict_first, verdict}
 use Rattle.preflight.specs.Theorems.Asked.{Whole, OnSheet, SomeAlike, NotRenamed, MayLeaveFirst}
-use Rattle.preflight.specs.Theorems.Fails.{ShowsOff, Says, VerdictSays}
+use Rattle.preflight.specs.Theorems.Fails.{Says, VerdictSays}
 use Rattle.preflight.specs.declared.Place.{Place}
 use Rattle.preflight.specs.declared.Place.TheVariants as place
 use Rattle.preflight.specs.declared.Shared.{Shared}

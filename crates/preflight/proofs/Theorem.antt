@@ -4,7 +4,7 @@ use native.Mathlib.Omega.{arith}
 use native.Mathlib.Nat.{suc-mul}
 use mathlib.Core.Path.{◌≡◌, refl, sym, ap, ◌∙◌}
 use mathlib.Core.Logic.{◌⊎◌, inl, inr}
-use mathlib.Core.Bool.{Bool, true, false, cond}
+use mathlib.Core.Bool.{Bool, true, false}
 use mathlib.Core.List.{List, [], ◌∷◌}
 use mathlib.Core.Option.{Option, none, some}
 use lib.Dec.{lit<}
@@ -107,9 +107,9 @@ module _ (old new sheet round accepted : List ℕ) where
     where
       kept_name : (i : ℕ) (name n : List ℕ) → ¬ In i accepted → name_given old i ≡ some name → name_given new i ≡ some n → InOrder i n
           → name_given new i ≡ some name
-      kept_name i name n q e d (inl o) = d ∙ sym o ∙ e
-      kept_name i name n q e d (inr (inl o, f)) = none_some name (sym o ∙ e)
-      kept_name i name n q e d (inr (inr o, f)) = absurd (q o)
+      kept_name i x n q e d (inl o) = d ∙ sym o ∙ e
+      kept_name i x n q e d (inr (inl o, f)) = none_some x (sym o ∙ e)
+      kept_name i x n q e d (inr (inr o, f)) = absurd (q o)
 
       not_renamed : (i : ℕ) (name : List ℕ) → In i round → ¬ In i accepted → name_given old i ≡ some name → name_given new i ≡ some name
       not_renamed i name p q e =
@@ -118,8 +118,8 @@ module _ (old new sheet round accepted : List ℕ) where
 
       nobody_else : (i j : ℕ) (name : List ℕ) → name_given old j ≡ some name → name_given new i ≡ some name → InOrder i name
           → name_given new j ≡ some name
-      nobody_else i j name e d (inl o) = ap (name_given new) (sym (one i j name o e)) ∙ d
-      nobody_else i j name e d (inr (o, f)) = absurd (f j e)
+      nobody_else i j x e d (inl o) = ap (name_given new) (sym (one i j x o e)) ∙ d
+      nobody_else i j x e d (inr (o, f)) = absurd (f j e)
 
       not_taken : (i j : ℕ) (name : List ℕ) → In i round → name_given old j ≡ some name → name_given new i ≡ some name
           → name_given new j ≡ some name

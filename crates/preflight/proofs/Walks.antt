@@ -1,10 +1,10 @@
 -- The loops over the round and over the ids of an image: one turn, by what its call answers. Assumes nothing.
-use Prim.Native.Nat.{ℕ, zero, suc, ◌+◌, ◌-◌, ◌≤◌, ◌<◌}
+use Prim.Native.Nat.{ℕ, suc, ◌+◌, ◌-◌, ◌≤◌, ◌<◌}
 use native.Mathlib.Omega.{arith}
 use native.Mathlib.Numerals.{add-one}
-use mathlib.Core.Path.{◌≡◌, refl, sym, ap, ◌∙◌}
+use mathlib.Core.Path.{◌≡◌, sym, ap, ◌∙◌}
 use mathlib.Core.Bool.{Bool, true, false, cond}
-use mathlib.Core.List.{List, ◌∷◌}
+use mathlib.Core.List.{List}
 use lib.ListN.{length, get_or, drop, drop_of_length-le}
 use lib.Seq.{drop-cons}
 use Rattle.reader.specs.Naming.{name_given}
@@ -12,9 +12,7 @@ use Rattle.reader.specs.IdWalk.{upper_hint}
 use Rattle.preflight.specs.Names.{Names, kept, first_other}
 use Rattle.preflight.specs.Exchanges.{shared_or, first_shared, some_kept, some_kept_in, taker_of, taken_or, first_taken, first_taken_in}
 use Rattle.preflight.specs.declared.Place.{Place}
-use Rattle.preflight.specs.declared.Shared.{Shared}
 use Rattle.preflight.specs.declared.Shared.TheVariants as shared
-use Rattle.preflight.specs.declared.Taken.{Taken}
 use Rattle.preflight.specs.declared.Taken.TheVariants as taken
 
 -- ---- the round, from the place i on

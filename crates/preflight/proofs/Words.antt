@@ -1,13 +1,13 @@
 -- Windows as words: what is laid out so is read back (`specs/Theorems/Words`). Assumes nothing.
 use Prim.Native.Nat.{ℕ, zero, suc, ◌+◌, ◌*◌, ◌/◌, ◌%◌}
 use native.Mathlib.Omega.{arith}
-use mathlib.Core.Path.{◌≡◌, refl, sym, ap, ◌∙◌}
+use mathlib.Core.Path.{◌≡◌, refl, ap, ◌∙◌}
 use mathlib.Core.List.{List, [], ◌∷◌}
 use lib.ListN.{length, get_or}
 use Rattle.image.specs.Bytes.{Each}
 use Rattle.validity.specs.declared.Date.{Date}
 use Rattle.validity.specs.declared.Window.{Window}
-use Rattle.preflight.specs.Dates.{date_of, window_at, windows_from, windows_in}
+use Rattle.preflight.specs.Dates.{date_of, window_at, windows_from}
 use Rattle.preflight.specs.Theorems.Words.{word_of, words_of, Fits, WordsRead}
 
 -- ---- one date

@@ -1,5 +1,4 @@
 -- When a verdict is yes: what the verdicts that it is made of are. Assumes nothing.
-use Prim.Native.Nat.{ℕ}
 use mathlib.Core.Path.{◌≡◌, refl, sym, ap, ◌∙◌}
 use mathlib.Core.Bool.{Bool, true, false, cond}
 use Rattle.image.proofs.Bools.{false_not_true}

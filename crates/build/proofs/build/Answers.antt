@@ -3,7 +3,6 @@ use native.Mathlib.Omega.{arith}
 use mathlib.Core.Path.{◌≡◌, refl, sym, ◌∙◌}
 use mathlib.Core.Bool.{false}
 use lib.ListN.{length}
-use borrow.Author.Rules.{rules}
 use Rattle.image.specs.PackedNames.{invalid_ends}
 use Rattle.build.specs.Build.{made_of}
 use Rattle.build.proofs.Whole.{refusal_14, refusal_15, refusal_15_places, refusal_1, refusal_none, refused_build}
@@ -39,9 +38,8 @@ returns-then-refusals-n c =
 pub returns-then-buf-lt-HEAD_SIZE : goal.returns-then-buf-lt-HEAD_SIZE
 returns-then-buf-lt-HEAD_SIZE c =
     let a = c.args in
-    let told =
-    refusal_1 _ _ _ _ _ (straight (goal.at.returns-then-buf-lt-HEAD_SIZE c).Else-invalid_ends) c.if-ids-n.false c.if-refusals-n.false
-    c.if-buf-lt-HEAD_SIZE.true in
+    let good = straight (goal.at.returns-then-buf-lt-HEAD_SIZE c).Else-invalid_ends in
+    let told = refusal_1 _ _ _ _ _ good c.if-ids-n.false c.if-refusals-n.false c.if-buf-lt-HEAD_SIZE.true in
     let out = refused_build a.mode a.repeats a.buf.now a.bytes.now a.ends.now a.ids.now a.refusals.now 1 told (omega arith) in
     record { answer = out.0; leaves = out.1.0; answers = out.1.1; untouched = λ h. refl }
 

@@ -3,10 +3,8 @@ use Prim.Native.Nat.{ℕ, ◌-◌, ◌^◌, ◌≤◌, ◌<◌}
 use native.Mathlib.Omega.{arith}
 use mathlib.Core.Path.{◌≡◌, refl, sym, ap, ◌∙◌}
 use mathlib.Core.Bool.{Bool, true, ◌&&◌}
-use mathlib.Core.List.{List}
 use lib.ListN.{length, get_or, drop, replicate, length-replicate}
 use lib.Seq.{length-take-le, drop_at}
-use borrow.Author.Rules.{rules}
 use Rattle.image.proofs.NameEnds.{begin_later, placed}
 use Rattle.serialize.specs.Steps.Meeting.{Distinct}
 use Rattle.writer.specs.State.{refuses_repeats}
@@ -69,13 +67,11 @@ write_list-written-requires c =
 
 pub returns-then-stop-written : goal.returns-then-stop-written
 returns-then-stop-written c =
-    let kept = c.write_list-written.ensures.behind in
     record {
       count_fits = few (goal.at.returns-then-stop-written c).Start;
       built = λ some. absurd (omega arith);
-      behind = kept;
-      rest =
-          λ z. c.hash_list.ensures.rest;
+      behind = c.write_list-written.ensures.behind;
+      rest = λ z. c.hash_list.ensures.rest;
     }
 
 pub returns : goal.returns
@@ -85,28 +81,21 @@ returns c =
     let apart : refuses_repeats a.repeats ≡ true → Distinct (list_entries a.bytes.now a.ends.now a.ids.now) = λ off.
     c.write_list-written.ensures.distinct
     (sym (ap (λ (b : Bool). b && c.write_list-written.result.met) (c.refuses-stop.ensures ∙ off)) ∙ c.if-stop-written.false) in
-    let cleared =
-    refusals_cleared n _ c.hash_list.new.hashes a.refusals.now c.clear_words.auto.words (hashes_long (goal.at.returns c).After-hash_list)
-    c.clear_words.ensures
-    c.hash_list.ensures.rest in
+    let at = goal.at.returns c in
+    let cleared = refusals_cleared n _ c.hash_list.new.hashes a.refusals.now c.clear_words.auto.words (hashes_long at.After-hash_list)
+    c.clear_words.ensures c.hash_list.ensures.rest in
     let done = c.write_list-written.ensures in
     record {
-      count_fits = few (goal.at.returns c).Start;
-      built = λ some. all_built a.mode a.repeats c.requires.list c.requires.capacity.fits (words (goal.at.returns c).After-any_zero)
-          (clean (goal.at.returns c).After-hash_list) apart
+      count_fits = few at.Start;
+      built = λ some. all_built a.mode a.repeats c.requires.list c.requires.capacity.fits (words at.After-any_zero) (clean at.After-hash_list) apart
           done.sized (done.leaves c.if-stop-written.false) done.behind cleared;
       behind = done.behind;
       rest = λ y. ap (drop n) cleared ∙ drop_at (replicate n 0) (drop n a.refusals.now) n (length-replicate {A = ℕ} n 0);
     }
 
 pub returns-then-any_zero : goal.returns-then-any_zero
-returns-then-any_zero c = record {
-  count_fits = few (goal.at.returns-then-any_zero c).Start;
-  built = λ some. absurd (omega arith);
-  behind = refl;
-  rest =
-      λ z. refl;
-}
+returns-then-any_zero c =
+    record { count_fits = few (goal.at.returns-then-any_zero c).Start; built = λ some. absurd (omega arith); behind = refl; rest = λ z. refl }
 
 pub clear_words-requires : goal.clear_words-requires
 clear_words-requires c = omega (arith, hashes_long (goal.at.clear_words-requires c).After-hash_list)

@@ -3,8 +3,6 @@ use Prim.Native.Nat.{ℕ, ◌^◌, ◌<◌}
 use native.Mathlib.Omega.{arith}
 use mathlib.Core.Path.{◌≡◌}
 use lib.ListN.{length, get_or}
-use borrow.Author.Rules.{rules}
-use borrow.Author.Tests.{not-false}
 use Rattle.build.proofs.ListWhole.{built_after}
 use Rattle.build.proofs.build_list.Goals.{After-has_capacity}
 use Rattle.build.proofs.build_list.Goals as goal

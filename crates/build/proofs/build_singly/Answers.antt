@@ -5,7 +5,6 @@ use mathlib.Core.Path.{◌≡◌, refl, sym, ap, ◌∙◌}
 use mathlib.Core.List.{◌++◌}
 use lib.ListN.{length, get_or, take, drop}
 use lib.Seq.{length-take-le}
-use borrow.Author.Rules.{rules}
 use Rattle.writer.specs.declared.CQDBWriter.{CQDBWriter}
 use Rattle.writer.specs.State.{state_with}
 use Rattle.lists.specs.Demand3.{answers_of, after_list}
@@ -15,8 +14,7 @@ use Rattle.build.proofs.build_singly.Goals.{After-put_list-after, After-scratch_
 use Rattle.build.proofs.build_singly.Goals as goal
 
 -- ---- what is known at them
-slots_long : (c : After-scratch_for_index-words) → let a = c.args in
-    length (take c.scratch_for_index-words.result a.scratch.now) ≡ c.scratch_for_index-words.result
+slots_long : (c : After-scratch_for_index-words) → let n = c.scratch_for_index-words.result in length (take n c.args.scratch.now) ≡ n
 slots_long c = length-take-le c.scratch_for_index-words.result c.args.scratch.now c.scratch_for_index-words.ensures.within
 
 word_ids : (c : After-put_list-after) → let a = c.args in (i : ℕ) → i < length a.ends.now → get_or a.ids.now i 0 < 2 ^ 32
@@ -36,8 +34,8 @@ leaves c =
 pub put_list-after-requires : goal.put_list-after-requires
 put_list-after-requires c =
     let a = c.args in
-    let long : length c.clear_words.new.words ≡ c.scratch_for_index-words.result =
-    c.clear_words.auto.words ∙ slots_long (goal.at.put_list-after-requires c).After-scratch_for_index-words in
+    let long : length c.clear_words.new.words ≡ c.scratch_for_index-words.result
+    = c.clear_words.auto.words ∙ slots_long (goal.at.put_list-after-requires c).After-scratch_for_index-words in
     record {
       list = c.requires;
       begun = begun_fresh a.mode a.repeats a.buf.now _ _ refl c.fresh_writer-w.ensures;
@@ -47,18 +45,15 @@ put_list-after-requires c =
 
 pub finish_list-requires : goal.finish_list-requires
 finish_list-requires c =
-    record {
-      closes =
-          list_closes c.args.mode c.args.repeats c.requires (word_ids (goal.at.finish_list-requires c).After-put_list-after)
-          (leaves (goal.at.finish_list-requires c).After-put_list-after);
-    }
+    let put = (goal.at.finish_list-requires c).After-put_list-after in
+    record { closes = list_closes c.args.mode c.args.repeats c.requires (word_ids put) (leaves put) }
 
 pub returns : goal.returns
 returns c =
     let a = c.args in
     let cs = listed a.bytes.now a.ends.now a.ids.now in
-    list_built a.mode a.repeats c.requires (word_ids (goal.at.returns c).After-put_list-after) (leaves (goal.at.returns c).After-put_list-after)
-    c.finish_list.ensures
+    let put = (goal.at.returns c).After-put_list-after in
+    list_built a.mode a.repeats c.requires (word_ids put) (leaves put) c.finish_list.ensures
     (c.put_list-after.ensures.answers
     ∙ ap (λ (x : CQDBWriter). answers_of x.mode x.repeats a.buf.now cs ++ drop (length a.ends.now) a.refusals.now)
     c.fresh_writer-w.ensures)

@@ -1,5 +1,5 @@
 -- Whether an image of all names has room.
-use Rattle.std.specs.Prelude.{ℕ, ◌*◌, ◌^◌, ◌≤◌, ◌<◌, ◌≡◌, List, length, take}
+use Rattle.std.specs.Prelude.{ℕ, ◌^◌, ◌≤◌, ◌<◌, ◌≡◌, List, length, take}
 use Rattle.image.specs.declared.Mode.{Mode}
 use Rattle.image.specs.PackedNames.{begin_of}
 use Rattle.build.specs.Needs.{ids_back, bytes_needed}

@@ -31,6 +31,6 @@ fill-requires c =
 pub returns : goal.returns
 returns c =
     let z = c.clear_words in
-    index_made (state_with c.args.w c.args.counts.now c.args.buf.now) c.args.slots.now (closes (goal.at.returns c).Else-refusal-ne0) z.new.words _ z.auto.words
-    z.ensures.kept c.fill.ensures
+    index_made (state_with c.args.w c.args.counts.now c.args.buf.now) c.args.slots.now (closes (goal.at.returns c).Else-refusal-ne0) z.new.words _
+    z.auto.words z.ensures.kept c.fill.ensures
     (omega (arith, c.if-m-w.false))

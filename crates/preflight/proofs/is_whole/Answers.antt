@@ -1,11 +1,5 @@
 -- `preflight::is_whole` meets its contract. Assumes nothing.
-use mathlib.Core.Path.{◌≡◌, sym, ap, ap₂, ◌∙◌}
-use mathlib.Core.Bool.{Bool, true, false, cond}
-use lib.Dec.{eqb}
-use borrow.Author.Rules.{rules}
-use borrow.Author.Tests.{not-true, not-false}
-use Rattle.image.specs.Bytes.{word}
-use Rattle.canonical.specs.Canonical.{canonical}
+use mathlib.Core.Path.{sym, ◌∙◌}
 use Rattle.preflight.proofs.is_whole.Goals as goal
 
 pub returns-then-not-is_canonical : goal.returns-then-not-is_canonical

@@ -1,8 +1,6 @@
 -- `preflight::of_changes` meets its contract. By the answers of its calls. Assumes nothing.
 use mathlib.Core.Path.{◌≡◌, sym, ◌∙◌}
 use mathlib.Core.Bool.{true}
-use borrow.Author.Rules.{rules}
-use borrow.Author.Tests.{not-true, not-false}
 use Rattle.preflight.specs.Verdicts.{is_whole}
 use Rattle.preflight.specs.Exchanges.{some_kept_in}
 use Rattle.preflight.proofs.Answers.{changes_refused, changes_unlike, changes_renamed, changes_taken}
@@ -29,28 +27,28 @@ pub returns-then-not-some_kept : goal.returns-then-not-some_kept
 returns-then-not-some_kept c =
     let k = c.some_kept in
     let a = c.args in
-    changes_unlike a.old.now a.new.now a.round.now a.accepted.now (whole (goal.at.returns-then-not-some_kept c).After-some_kept) (sym k.ensures
-    ∙ c.if-not-some_kept.true)
+    changes_unlike a.old.now a.new.now a.round.now a.accepted.now (whole (goal.at.returns-then-not-some_kept c).After-some_kept)
+    (sym k.ensures ∙ c.if-not-some_kept.true)
 
 pub returns-in-At : goal.returns-in-At
 returns-in-At c =
     let a = c.args in
-    changes_renamed a.old.now a.new.now a.round.now a.accepted.now (whole (goal.at.returns-in-At c).After-some_kept)
-    (alike (goal.at.returns-in-At c).After-first_renamed) _
+    let at = goal.at.returns-in-At c in
+    changes_renamed a.old.now a.new.now a.round.now a.accepted.now (whole at.After-some_kept) (alike at.After-first_renamed) _
     (sym c.in-At.is ∙ c.first_renamed.ensures)
 
 pub returns-in-By : goal.returns-in-By
 returns-in-By c =
     let a = c.args in
-    changes_taken a.old.now a.new.now a.round.now a.accepted.now (whole (goal.at.returns-in-By c).After-some_kept)
-    (alike (goal.at.returns-in-By c).After-first_renamed) _
+    let at = goal.at.returns-in-By c in
+    changes_taken a.old.now a.new.now a.round.now a.accepted.now (whole at.After-some_kept) (alike at.After-first_renamed) _
     (sym c.in-Nothing.is ∙ c.first_renamed.ensures)
     (sym c.in-By.is ∙ c.first_taken.ensures)
 
 pub returns-in-Nothing-first_taken : goal.returns-in-Nothing-first_taken
 returns-in-Nothing-first_taken c =
     let a = c.args in
-    changes_taken a.old.now a.new.now a.round.now a.accepted.now (whole (goal.at.returns-in-Nothing-first_taken c).After-some_kept)
-    (alike (goal.at.returns-in-Nothing-first_taken c).After-first_renamed) _
+    let at = goal.at.returns-in-Nothing-first_taken c in
+    changes_taken a.old.now a.new.now a.round.now a.accepted.now (whole at.After-some_kept) (alike at.After-first_renamed) _
     (sym c.in-Nothing.is ∙ c.first_renamed.ensures)
     (sym c.in-Nothing-first_taken.is ∙ c.first_taken.ensures)

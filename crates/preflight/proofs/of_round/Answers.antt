@@ -1,6 +1,5 @@
 -- `preflight::of_round` meets its contract. By the answers of its two calls. Assumes nothing.
 use mathlib.Core.Path.{sym, ◌∙◌}
-use borrow.Author.Rules.{rules}
 use Rattle.reader.specs.Naming.{name_given}
 use Rattle.preflight.proofs.Answers.{round_empty, round_nameless, round_shared}
 use Rattle.preflight.proofs.of_round.Goals as goal

@@ -1,8 +1,6 @@
 -- `preflight::preflight` meets its contract: the verdict, and in a yes the counts. Assumes nothing.
 use native.Mathlib.Omega.{arith}
 use mathlib.Core.Path.{sym, ◌∙◌}
-use borrow.Author.Rules.{rules}
-use borrow.Author.Tests.{not-true, not-false}
 use Rattle.reader.specs.Naming.{name_given}
 use Rattle.sheet.specs.SheetReading.{read_lists}
 use Rattle.preflight.specs.Counts.{names, compared_in, added_in, unsighted_in}

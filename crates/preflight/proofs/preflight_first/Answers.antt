@@ -1,7 +1,5 @@
 -- `preflight::preflight_first` meets its contract: the verdict, and in a yes what was not sighted. Assumes nothing.
 use mathlib.Core.Path.{refl, sym, ◌∙◌}
-use borrow.Author.Rules.{rules}
-use borrow.Author.Tests.{not-true, not-false}
 use Rattle.sheet.specs.SheetReading.{read_lists}
 use Rattle.preflight.specs.Counts.{unsighted_in}
 use Rattle.preflight.proofs.Answers.{answer_no, answer_yes}

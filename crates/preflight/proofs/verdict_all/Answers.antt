@@ -1,7 +1,5 @@
 -- `preflight::verdict_all` meets its contract. One verdict after another. Assumes nothing.
 use mathlib.Core.Path.{sym, ◌∙◌}
-use borrow.Author.Rules.{rules}
-use borrow.Author.Tests.{not-true, not-false}
 use Rattle.preflight.proofs.Answers.{stops, goes_on, verdict_is}
 use Rattle.preflight.proofs.verdict_all.Goals as goal
 

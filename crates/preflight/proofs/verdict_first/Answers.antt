@@ -1,8 +1,6 @@
 -- `preflight::verdict_first` meets its contract. One verdict after another. Assumes nothing.
 use mathlib.Core.Path.{◌≡◌, sym, ◌∙◌}
 use mathlib.Core.Bool.{true}
-use borrow.Author.Rules.{rules}
-use borrow.Author.Tests.{not-true, not-false}
 use Rattle.preflight.specs.Verdicts.{is_whole}
 use Rattle.preflight.proofs.Answers.{stops, goes_on, first_refused, first_is}
 use Rattle.preflight.proofs.verdict_first.Goals.{After-of_sheet-listed}

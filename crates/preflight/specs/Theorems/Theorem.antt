@@ -1,6 +1,6 @@
 -- What is proved of preflight (`leaves` in proofs/Theorem), for all bytes.
 use Rattle.std.specs.Prelude.{ℕ, ◌≤◌, ◌≡◌, ◌↔◌, ◌⊎◌, List, [], length}
-use Rattle.std.proofs.Math.Option.{Option, none, some}
+use Rattle.std.proofs.Math.Option.{none, some}
 use Rattle.jhash.specs.Outcome.{value}
 use Rattle.jhash.specs.Word.{AllBytes}
 use Rattle.image.specs.declared.Mode.TheVariants.{Twoway}

@@ -3,7 +3,6 @@ use native.Mathlib.Omega.{arith}
 use mathlib.Core.Path.{sym}
 use lib.ListN.{length}
 use lib.Seq.{length-take-le}
-use borrow.Author.Rules.{rules}
 use Rattle.image.proofs.Bools.{false_not_true}
 use Rattle.build.proofs.Needed.{capacity_known}
 use Rattle.build.proofs.capacity.has_capacity.Goals as goal

@@ -1,13 +1,10 @@
 -- `build::hashed::any_zero` meets its contract. The loop's invariant: what was found or is still to be found is the whole test. Assumes nothing.
 use Prim.Native.Nat.{ℕ, ◌-◌, ◌≤◌}
-use native.Mathlib.Omega.{arith}
-use borrow.Author.Rules.{rules}
-use mathlib.Core.Path.{◌≡◌, refl}
+use mathlib.Core.Path.{◌≡◌}
 use mathlib.Core.Bool.{Bool, ◌||◌}
 use mathlib.Core.List.{List}
 use lib.ListN.{length, drop}
 use Rattle.image.specs.Zero.{has_zero}
-use Rattle.build.proofs.StoredAll.{any_zero_step, any_zero_end}
 use Rattle.build.proofs.hashed.any_zero.Given as goal
 
 pub record Seen (bytes : List ℕ) (any : Bool) (i : ℕ) : Type 0 where

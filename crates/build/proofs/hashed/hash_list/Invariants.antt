@@ -1,9 +1,7 @@
 -- `build::hashed::hash_list` meets its contract. Assumes nothing.
 use Prim.Native.Nat.{◌-◌}
-use native.Mathlib.Omega.{arith}
 use lib.ListN.{length}
-use borrow.Author.Rules.{rules}
-use Rattle.build.proofs.StoredAll.{HashingTo, hashing_start, hashing_end, count_word, hashing_step}
+use Rattle.build.proofs.StoredAll.{HashingTo}
 use Rattle.build.proofs.hashed.hash_list.Given as goal
 
 abbrev pub invariant-loop-i : goal.invariant-loop-i

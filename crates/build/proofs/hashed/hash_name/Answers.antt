@@ -1,7 +1,6 @@
 -- `build::hashed::hash_name` meets its contract. Assumes nothing.
 use mathlib.Core.Path.{sym, ◌∙◌}
 use Rattle.jhash.proofs.Outcomes.{result_name_hash, result_refused, hash_or_zero_short, hash_or_zero_long}
-use borrow.Author.Rules.{rules}
 use Rattle.build.proofs.hashed.hash_name.Goals as goal
 
 pub returns-in-Hash : goal.returns-in-Hash

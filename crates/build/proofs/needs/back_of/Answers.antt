@@ -1,7 +1,6 @@
 -- `build::needs::back_of` meets its contract: the largest id plus 1 is the back size. Assumes nothing.
 use Prim.Native.Nat.{◌+◌, ◌^◌, ◌≤◌}
 use native.Mathlib.Omega.{arith}
-use borrow.Author.Rules.{rules}
 use Rattle.build.proofs.Needed.{no_back}
 use Rattle.build.proofs.needs.back_of.Goals as goal
 

@@ -1,7 +1,6 @@
 -- `build::needs::bytes_for` meets its contract: sums that are held at 2^64 − 1 make a whole that is. Assumes nothing.
 use native.Mathlib.Omega.{arith}
 use mathlib.Core.Path.{ap, ◌∙◌}
-use borrow.Author.Rules.{rules}
 use Rattle.image.specs.Image.{back_in}
 use Rattle.build.proofs.Needed.{back_less, whole_sum}
 use Rattle.build.proofs.needs.bytes_for.Goals as goal

@@ -1,5 +1,4 @@
 -- `build::needs::for_list` meets its contract: both numbers. Assumes nothing.
-use borrow.Author.Rules.{rules}
 use Rattle.build.proofs.Needed.{needs_are}
 use Rattle.build.proofs.needs.for_list.Goals as goal
 

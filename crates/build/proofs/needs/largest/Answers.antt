@@ -1,9 +1,6 @@
 -- `build::needs::largest` meets its contract. The loop's invariant: it is that of the ids passed. Assumes nothing.
-use Prim.Native.Nat.{◌-◌}
 use native.Mathlib.Omega.{arith}
-use lib.ListN.{length}
-use borrow.Author.Rules.{rules}
-use Rattle.build.proofs.Needed.{LargestTo, largest_start, largest_step, largest_end}
+use Rattle.build.proofs.Needed.{largest_start, largest_step, largest_end}
 use Rattle.build.proofs.needs.largest.Goals as goal
 
 pub loop-i-init : goal.loop-i-init

@@ -1,9 +1,7 @@
 -- `build::needs::largest` meets its contract. The loop's invariant: it is that of the ids passed. Assumes nothing.
 use Prim.Native.Nat.{◌-◌}
-use native.Mathlib.Omega.{arith}
 use lib.ListN.{length}
-use borrow.Author.Rules.{rules}
-use Rattle.build.proofs.Needed.{LargestTo, largest_start, largest_step, largest_end}
+use Rattle.build.proofs.Needed.{LargestTo}
 use Rattle.build.proofs.needs.largest.Given as goal
 
 abbrev pub invariant-loop-i : goal.invariant-loop-i

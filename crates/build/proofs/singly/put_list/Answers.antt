@@ -1,17 +1,13 @@
 -- `build::singly::put_list` meets its contract. The loop's invariant: what is left to be put makes of what was put what the whole list leaves, and the
 -- index is right where there is one. Assumes nothing.
-use Prim.Native.Nat.{ℕ, ◌-◌, ◌≤◌, ◌<◌}
+use Prim.Native.Nat.{◌≤◌, ◌<◌}
 use native.Mathlib.Omega.{arith}
 use mathlib.Core.Path.{◌≡◌, refl, ◌∙◌}
-use mathlib.Core.List.{List}
 use lib.ListN.{length}
 use borrow.Author.Rules.{rules}
 use Rattle.image.specs.PackedNames.{names}
 use Rattle.image.proofs.NameEnds.{length_names}
-use Rattle.writer.specs.declared.CQDBWriter.{CQDBWriter}
-use Rattle.writer.specs.State.{state_with}
-use Rattle.build.proofs.SinglePuts.{PutsBefore, puts_start, puts_turn, puts_end, answers_end}
-use Rattle.build.proofs.singly.put_list.Invariants.{Invariant}
+use Rattle.build.proofs.SinglePuts.{puts_start, puts_turn, puts_end, answers_end}
 use Rattle.build.proofs.singly.put_list.Goals as goal
 
 -- ---- the needs

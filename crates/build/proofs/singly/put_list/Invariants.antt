@@ -1,16 +1,13 @@
 -- `build::singly::put_list` meets its contract. The loop's invariant: what is left to be put makes of what was put what the whole list leaves, and the
 -- index is right where there is one. Assumes nothing.
-use Prim.Native.Nat.{ℕ, ◌-◌, ◌≤◌, ◌<◌}
-use native.Mathlib.Omega.{arith}
-use mathlib.Core.Path.{◌≡◌, refl, ◌∙◌}
+use Prim.Native.Nat.{ℕ, ◌-◌, ◌≤◌}
+use mathlib.Core.Path.{◌≡◌}
 use mathlib.Core.List.{List}
 use lib.ListN.{length}
-use borrow.Author.Rules.{rules}
 use Rattle.image.specs.PackedNames.{names}
-use Rattle.image.proofs.NameEnds.{length_names}
 use Rattle.writer.specs.declared.CQDBWriter.{CQDBWriter}
 use Rattle.writer.specs.State.{state_with}
-use Rattle.build.proofs.SinglePuts.{PutsBefore, puts_start, puts_turn, puts_end, answers_end}
+use Rattle.build.proofs.SinglePuts.{PutsBefore}
 use Rattle.build.proofs.singly.put_list.Given as goal
 
 pub record Invariant (w : CQDBWriter) (buf₀ slots₀ bytes ends ids refusals₀ counts buf slots refusals : List ℕ) (after : CQDBWriter) (i : ℕ) : Type 0 where

@@ -1,5 +1,4 @@
 -- `build::singly::put_name` meets its contract, by either way. Assumes nothing.
-use borrow.Author.Rules.{rules}
 use Rattle.build.proofs.SinglePuts.{by_rule, by_index}
 use Rattle.build.proofs.singly.put_name.Goals as goal
 

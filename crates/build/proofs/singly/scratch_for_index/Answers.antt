@@ -1,6 +1,5 @@
 -- `build::singly::scratch_for_index` meets its contract. Assumes nothing.
 use native.Mathlib.Omega.{arith}
-use borrow.Author.Rules.{rules}
 use Rattle.build.proofs.singly.scratch_for_index.Goals as goal
 
 pub returns-then-words-n : goal.returns-then-words-n

@@ -27,19 +27,13 @@ returns-then-has_zero c = rw (inside (goal.at.returns-then-has_zero c).Else-not-
 pub returns-then-name-gt4294967294 : goal.returns-then-name-gt4294967294
 unfolding early_refusal
 returns-then-name-gt4294967294 c =
-    rw (
-      inside (goal.at.returns-then-name-gt4294967294 c).Else-not-in_buffer,
-      free (goal.at.returns-then-name-gt4294967294 c).Else-has_zero,
-      lt-ltb 4294967294
-          (length c.args.name.now) c.if-name-gt4294967294.true,
-    ) refl
+    let at = goal.at.returns-then-name-gt4294967294 c in
+    let long = lt-ltb 4294967294 (length c.args.name.now) c.if-name-gt4294967294.true in
+    rw (inside at.Else-not-in_buffer, free at.Else-has_zero, long) refl
 
 pub returns : goal.returns
 unfolding early_refusal
 returns c =
-    rw (
-      inside (goal.at.returns c).Else-not-in_buffer,
-      free (goal.at.returns c).Else-has_zero,
-      le-ltb 4294967294 (length c.args.name.now)
-          (omega (arith, c.if-name-gt4294967294.false)),
-    ) refl
+    let at = goal.at.returns c in
+    let short = le-ltb 4294967294 (length c.args.name.now) (omega (arith, c.if-name-gt4294967294.false)) in
+    rw (inside at.Else-not-in_buffer, free at.Else-has_zero, short) refl

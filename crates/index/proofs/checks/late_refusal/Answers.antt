@@ -23,18 +23,14 @@ pub returns-then-counts-t-gt4294967294 : goal.returns-then-counts-t-gt4294967294
 unfolding late_refusal
 returns-then-counts-t-gt4294967294 c =
     let a = c.args in
-    rw (
-      sized (goal.at.returns-then-counts-t-gt4294967294 c).After-too_large c.if-too_large.false,
-      lt-ltb 4294967294 (get_or a.counts.now (table_of a.h) 0)
-          (omega (arith, c.if-counts-t-gt4294967294.true)),
-    ) refl
+    let fits = sized (goal.at.returns-then-counts-t-gt4294967294 c).After-too_large c.if-too_large.false in
+    let full = lt-ltb 4294967294 (get_or a.counts.now (table_of a.h) 0) (omega (arith, c.if-counts-t-gt4294967294.true)) in
+    rw (fits, full) refl
 
 pub returns : goal.returns
 unfolding late_refusal
 returns c =
     let a = c.args in
-    rw (
-      sized (goal.at.returns c).After-too_large c.if-too_large.false,
-      le-ltb 4294967294 (get_or a.counts.now (table_of a.h) 0)
-          (omega (arith, c.if-counts-t-gt4294967294.false)),
-    ) refl
+    let fits = sized (goal.at.returns c).After-too_large c.if-too_large.false in
+    let spare = le-ltb 4294967294 (get_or a.counts.now (table_of a.h) 0) (omega (arith, c.if-counts-t-gt4294967294.false)) in
+    rw (fits, spare) refl

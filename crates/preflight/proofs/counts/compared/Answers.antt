@@ -1,11 +1,8 @@
 -- `preflight::counts::compared` meets its contract. The loop's invariant is `TallyInv`: the first i ids are counted. Assumes nothing.
-use Prim.Native.Nat.{◌-◌}
 use native.Mathlib.Omega.{arith}
-use lib.ListN.{length}
-use borrow.Author.Rules.{rules}
 use Rattle.reader.specs.Naming.{name_given}
 use Rattle.preflight.specs.Counts.{names}
-use Rattle.preflight.proofs.Tallies.{TallyInv, tally_starts, tallies_on, tallied}
+use Rattle.preflight.proofs.Tallies.{tally_starts, tallies_on, tallied}
 use Rattle.preflight.proofs.counts.compared.Goals as goal
 
 pub loop-i-init : goal.loop-i-init

@@ -1,9 +1,7 @@
 -- `preflight::counts::distinct` meets its contract. The loop's invariant is `DistinctInv`: the first i places are counted. Assumes nothing.
 use Prim.Native.Nat.{◌-◌}
-use native.Mathlib.Omega.{arith}
 use lib.ListN.{length}
-use borrow.Author.Rules.{rules}
-use Rattle.preflight.proofs.Distinct.{DistinctInv, distinct_starts, distinct_on, distinct_ends}
+use Rattle.preflight.proofs.Distinct.{DistinctInv}
 use Rattle.preflight.proofs.counts.distinct.Given as goal
 
 abbrev pub invariant-loop-i : goal.invariant-loop-i

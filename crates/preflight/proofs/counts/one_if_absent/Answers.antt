@@ -2,7 +2,6 @@
 use native.Mathlib.Omega.{arith}
 use mathlib.Core.Path.{sym, ap, ◌∙◌}
 use mathlib.Core.Bool.{Bool, cond, not}
-use borrow.Author.Rules.{rules}
 use Rattle.preflight.proofs.counts.one_if_absent.Goals as goal
 
 pub returns-then-occurs : goal.returns-then-occurs

@@ -5,7 +5,6 @@ use mathlib.Core.Path.{sym, ap, ◌∙◌}
 use mathlib.Core.Bool.{cond}
 use mathlib.Core.List.{List}
 use mathlib.Core.Option.{Option}
-use borrow.Author.Rules.{rules}
 use Rattle.reader.specs.Cases.{naming_of}
 use Rattle.preflight.specs.Counts.{is_given}
 use Rattle.preflight.proofs.Given.{given, none_given}

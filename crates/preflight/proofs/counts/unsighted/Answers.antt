@@ -1,6 +1,5 @@
 -- `preflight::counts::unsighted` meets its contract. Assumes nothing.
 use native.Mathlib.Omega.{arith}
-use borrow.Author.Rules.{rules}
 use Rattle.reader.specs.Slices.{slice}
 use Rattle.preflight.proofs.Distinct.{unsighted_so}
 use Rattle.preflight.proofs.counts.unsighted.Goals as goal

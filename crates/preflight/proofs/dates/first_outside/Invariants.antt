@@ -1,13 +1,9 @@
 -- `preflight::dates::first_outside` meets its contract. The loop's invariant: what is left of the round decides. Assumes nothing.
-use Prim.Native.Nat.{ℕ, ◌-◌}
-use native.Mathlib.Omega.{arith}
-use mathlib.Core.Path.{◌≡◌, refl, sym, ap, ◌∙◌}
-use mathlib.Core.Bool.{Bool, not}
+use Prim.Native.Nat.{◌-◌}
+use mathlib.Core.Path.{◌≡◌}
 use lib.ListN.{length, drop}
-use borrow.Author.Rules.{rules}
 use Rattle.preflight.specs.Ids.{first_place}
 use Rattle.preflight.specs.Dates.{outside, windows_in}
-use Rattle.preflight.proofs.Places.{place_end, place_here, place_on}
 use Rattle.preflight.proofs.dates.first_outside.Given as goal
 
 abbrev pub invariant-loop-i : goal.invariant-loop-i

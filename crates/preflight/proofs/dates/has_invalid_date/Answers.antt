@@ -1,8 +1,6 @@
 -- `preflight::dates::has_invalid_date` meets its contract. Assumes nothing.
 use mathlib.Core.Path.{refl, sym, ◌∙◌}
 use mathlib.Core.Bool.{true, false}
-use borrow.Author.Rules.{rules}
-use borrow.Author.Tests.{not-true, not-false}
 use Rattle.preflight.proofs.Windows.{invalid_by}
 use Rattle.preflight.proofs.dates.has_invalid_date.Goals as goal
 

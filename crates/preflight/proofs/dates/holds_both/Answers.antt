@@ -1,7 +1,5 @@
 -- `preflight::dates::holds_both` meets its contract. Assumes nothing.
 use mathlib.Core.Path.{sym, ◌∙◌}
-use borrow.Author.Rules.{rules}
-use borrow.Author.Tests.{not-true, not-false}
 use Rattle.preflight.proofs.dates.holds_both.Goals as goal
 
 pub returns-then-not-holds_date : goal.returns-then-not-holds_date

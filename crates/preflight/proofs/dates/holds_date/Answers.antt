@@ -1,7 +1,6 @@
 -- `preflight::dates::holds_date` meets its contract, by the tests that led to each return. Assumes nothing.
 use mathlib.Core.Path.{refl, sym, ◌∙◌}
 use mathlib.Core.Bool.{true, false}
-use borrow.Author.Rules.{rules}
 use borrow.Author.Tests.{eq-eqb, ne_eqb}
 use Rattle.preflight.proofs.Windows.{holds_by}
 use Rattle.preflight.proofs.dates.holds_date.Goals as goal

@@ -1,5 +1,4 @@
 -- `preflight::dates::is_inverted` meets its contract. Assumes nothing.
-use borrow.Author.Rules.{rules}
 use Rattle.preflight.proofs.Windows.{inverted_by}
 use Rattle.preflight.proofs.dates.is_inverted.Goals as goal
 

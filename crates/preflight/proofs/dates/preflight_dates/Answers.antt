@@ -1,8 +1,6 @@
 -- `preflight::dates::preflight_dates` meets its contract, by the tests that led to each return. Assumes nothing.
 use mathlib.Core.Path.{◌≡◌, refl, sym, ◌∙◌}
 use mathlib.Core.Bool.{true, false}
-use borrow.Author.Rules.{rules}
-use borrow.Author.Tests.{not-true, not-false}
 use Rattle.validity.specs.Calendar.{is_date}
 use Rattle.validity.specs.Rule.{some_window, invalid_dates, inverted}
 use Rattle.preflight.specs.Dates.{windows_in}
@@ -43,29 +41,28 @@ returns-then-not-is_date-2 c =
 pub returns-then-some_invalid : goal.returns-then-some_invalid
 returns-then-some_invalid c =
     let a = c.args in
-    dates_by (windows_in a.windows.now) a.round.now a.last a.date true true true _ _ (last_so (goal.at.returns-then-some_invalid c).After-is_date-2)
-    (date_so (goal.at.returns-then-some_invalid c).After-some_invalid)
+    let at = goal.at.returns-then-some_invalid c in
+    dates_by (windows_in a.windows.now) a.round.now a.last a.date true true true _ _ (last_so at.After-is_date-2) (date_so at.After-some_invalid)
     (sym c.some_invalid.ensures ∙ c.if-some_invalid.true) refl refl
 
 pub returns-then-some_inverted : goal.returns-then-some_inverted
 returns-then-some_inverted c =
     let a = c.args in
-    dates_by (windows_in a.windows.now) a.round.now a.last a.date true true false true _ (last_so (goal.at.returns-then-some_inverted c).After-is_date-2)
-    (date_so (goal.at.returns-then-some_inverted c).After-some_invalid) (dates_so (goal.at.returns-then-some_inverted c).After-some_inverted)
+    let at = goal.at.returns-then-some_inverted c in
+    dates_by (windows_in a.windows.now) a.round.now a.last a.date true true false true _ (last_so at.After-is_date-2) (date_so at.After-some_invalid)
+    (dates_so at.After-some_inverted)
     (sym c.some_inverted.ensures ∙ c.if-some_inverted.true) refl
 
 pub returns-in-At : goal.returns-in-At
 returns-in-At c =
     let a = c.args in
-    dates_by (windows_in a.windows.now) a.round.now a.last a.date true true false false _ (last_so (goal.at.returns-in-At c).After-is_date-2)
-    (date_so (goal.at.returns-in-At c).After-some_invalid) (dates_so (goal.at.returns-in-At c).After-some_inverted)
-    (order_so (goal.at.returns-in-At c).After-first_outside)
-    (sym c.first_outside.ensures ∙ c.in-At.is)
+    let at = goal.at.returns-in-At c in
+    dates_by (windows_in a.windows.now) a.round.now a.last a.date true true false false _ (last_so at.After-is_date-2) (date_so at.After-some_invalid)
+    (dates_so at.After-some_inverted) (order_so at.After-first_outside) (sym c.first_outside.ensures ∙ c.in-At.is)
 
 pub returns-in-Nothing : goal.returns-in-Nothing
 returns-in-Nothing c =
     let a = c.args in
-    dates_by (windows_in a.windows.now) a.round.now a.last a.date true true false false _ (last_so (goal.at.returns-in-Nothing c).After-is_date-2)
-    (date_so (goal.at.returns-in-Nothing c).After-some_invalid) (dates_so (goal.at.returns-in-Nothing c).After-some_inverted)
-    (order_so (goal.at.returns-in-Nothing c).After-first_outside)
-    (sym c.first_outside.ensures ∙ c.in-Nothing.is)
+    let at = goal.at.returns-in-Nothing c in
+    dates_by (windows_in a.windows.now) a.round.now a.last a.date true true false false _ (last_so at.After-is_date-2) (date_so at.After-some_invalid)
+    (dates_so at.After-some_inverted) (order_so at.After-first_outside) (sym c.first_outside.ensures ∙ c.in-Nothing.is)

@@ -1,12 +1,8 @@
 -- `preflight::dates::some_invalid` meets its contract. The loop's invariant: the windows that are left decide. Assumes nothing.
-use Prim.Native.Nat.{◌-◌, ◌/◌}
 use native.Mathlib.Omega.{arith}
-use mathlib.Core.Path.{◌≡◌, sym, ap, ◌∙◌}
+use mathlib.Core.Path.{sym, ap, ◌∙◌}
 use mathlib.Core.Bool.{true, false}
-use lib.ListN.{length}
-use borrow.Author.Rules.{rules}
-use Rattle.validity.specs.Rule.{some_window, invalid_dates}
-use Rattle.preflight.specs.Dates.{windows_from, windows_in}
+use Rattle.validity.specs.Rule.{invalid_dates}
 use Rattle.preflight.proofs.Windows.{some_end, some_turn, some_start}
 use Rattle.preflight.proofs.dates.some_invalid.Goals as goal
 

@@ -1,5 +1,4 @@
 -- `preflight::dates::window_at` meets its contract: its three words lie in the slice. Assumes nothing.
-use borrow.Author.Rules.{rules}
 use Rattle.preflight.proofs.Windows.{window_by}
 use Rattle.preflight.proofs.dates.window_at.Goals as goal
 

@@ -1,11 +1,7 @@
 -- `preflight::names::first_nameless` meets its contract. The loop's invariant: what is left of the round decides. Assumes nothing.
-use Prim.Native.Nat.{◌-◌}
 use native.Mathlib.Omega.{arith}
-use mathlib.Core.Path.{◌≡◌, refl, sym, ◌∙◌}
-use lib.ListN.{length, drop}
-use borrow.Author.Rules.{rules}
+use mathlib.Core.Path.{refl, sym, ◌∙◌}
 use Rattle.reader.specs.Naming.{name_given}
-use Rattle.preflight.specs.Ids.{first_place}
 use Rattle.preflight.specs.Names.{nameless}
 use Rattle.preflight.proofs.Places.{place_end, place_here, place_on}
 use Rattle.preflight.proofs.names.first_nameless.Goals as goal

@@ -1,11 +1,7 @@
 -- `preflight::names::first_shared` meets its contract. The loop's invariant: what is left of the round decides. Assumes nothing.
-use Prim.Native.Nat.{◌-◌}
 use native.Mathlib.Omega.{arith}
-use mathlib.Core.Path.{◌≡◌, refl, sym, ◌∙◌}
-use lib.ListN.{length, drop}
-use borrow.Author.Rules.{rules}
+use mathlib.Core.Path.{refl, sym, ◌∙◌}
 use Rattle.reader.specs.Naming.{name_given}
-use Rattle.preflight.specs.Exchanges.{first_shared}
 use Rattle.preflight.specs.declared.Place.TheVariants.{At, Nothing}
 use Rattle.preflight.proofs.Walks.{shared_end, shared_turn}
 use Rattle.preflight.proofs.names.first_shared.Goals as goal

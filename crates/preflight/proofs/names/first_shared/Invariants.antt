@@ -1,13 +1,9 @@
 -- `preflight::names::first_shared` meets its contract. The loop's invariant: what is left of the round decides. Assumes nothing.
 use Prim.Native.Nat.{◌-◌}
-use native.Mathlib.Omega.{arith}
-use mathlib.Core.Path.{◌≡◌, refl, sym, ◌∙◌}
+use mathlib.Core.Path.{◌≡◌}
 use lib.ListN.{length, drop}
-use borrow.Author.Rules.{rules}
 use Rattle.reader.specs.Naming.{name_given}
 use Rattle.preflight.specs.Exchanges.{first_shared}
-use Rattle.preflight.specs.declared.Place.TheVariants.{At, Nothing}
-use Rattle.preflight.proofs.Walks.{shared_end, shared_turn}
 use Rattle.preflight.proofs.names.first_shared.Given as goal
 
 abbrev pub invariant-loop-i : goal.invariant-loop-i

@@ -1,10 +1,7 @@
 -- `preflight::names::first_taken` meets its contract. The loop's invariant: the ids that are left decide. Assumes nothing.
-use Prim.Native.Nat.{◌-◌}
 use native.Mathlib.Omega.{arith}
-use mathlib.Core.Path.{◌≡◌, refl, sym, ◌∙◌}
-use borrow.Author.Rules.{rules}
+use mathlib.Core.Path.{sym, ◌∙◌}
 use Rattle.reader.specs.Naming.{name_given}
-use Rattle.preflight.specs.Exchanges.{first_taken, first_taken_in}
 use Rattle.preflight.specs.declared.Place.TheVariants.{At, Nothing}
 use Rattle.preflight.proofs.Walks.{taken_end, taken_turn, taken_start}
 use Rattle.preflight.proofs.names.first_taken.Goals as goal

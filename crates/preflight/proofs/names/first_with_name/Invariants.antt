@@ -1,13 +1,10 @@
 -- `preflight::names::first_with_name` meets its contract. The loop's invariant: what is left of the round decides. Assumes nothing.
 use Prim.Native.Nat.{◌-◌}
-use native.Mathlib.Omega.{arith}
-use mathlib.Core.Path.{◌≡◌, refl, sym, ◌∙◌}
+use mathlib.Core.Path.{◌≡◌}
 use lib.ListN.{length, drop}
-use borrow.Author.Rules.{rules}
 use Rattle.reader.specs.Naming.{name_given}
 use Rattle.preflight.specs.Ids.{first_place}
 use Rattle.preflight.specs.Names.{other_has}
-use Rattle.preflight.proofs.Places.{place_end, place_here, place_on}
 use Rattle.preflight.proofs.names.first_with_name.Given as goal
 
 abbrev pub invariant-loop-i : goal.invariant-loop-i

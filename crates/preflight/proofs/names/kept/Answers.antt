@@ -3,7 +3,6 @@ use native.Mathlib.Omega.{arith}
 use mathlib.Core.Path.{◌≡◌, sym, ap, ◌∙◌}
 use mathlib.Core.List.{List}
 use mathlib.Core.Option.{Option}
-use borrow.Author.Rules.{rules}
 use Rattle.reader.specs.Naming.{place, naming, name_given}
 use Rattle.reader.specs.Cases.{naming_of}
 use Rattle.preflight.specs.Names.{kept_name}

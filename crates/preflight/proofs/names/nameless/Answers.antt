@@ -1,8 +1,5 @@
 -- `preflight::names::nameless` meets its contract. By the naming of the id. Assumes nothing.
 use mathlib.Core.Path.{sym, ap, ◌∙◌}
-use mathlib.Core.List.{List}
-use mathlib.Core.Option.{Option}
-use borrow.Author.Rules.{rules}
 use Rattle.reader.specs.Cases.{naming_of}
 use Rattle.preflight.specs.Names.{is_empty}
 use Rattle.preflight.proofs.Given.{none_given, empty_by_length}

@@ -1,10 +1,6 @@
 -- `preflight::names::occurs` meets its contract. The loop's invariant: what is left of the list decides. Assumes nothing.
-use Prim.Native.Nat.{◌-◌}
 use native.Mathlib.Omega.{arith}
-use mathlib.Core.Path.{◌≡◌, refl, sym, ◌∙◌}
-use lib.ListN.{length, drop}
-use borrow.Author.Rules.{rules}
-use Rattle.preflight.specs.Ids.{occurs}
+use mathlib.Core.Path.{refl, sym, ◌∙◌}
 use Rattle.preflight.proofs.Places.{occurs_end, occurs_here, occurs_on}
 use Rattle.preflight.proofs.names.occurs.Goals as goal
 

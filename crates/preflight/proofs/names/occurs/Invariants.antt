@@ -1,11 +1,8 @@
 -- `preflight::names::occurs` meets its contract. The loop's invariant: what is left of the list decides. Assumes nothing.
 use Prim.Native.Nat.{◌-◌}
-use native.Mathlib.Omega.{arith}
-use mathlib.Core.Path.{◌≡◌, refl, sym, ◌∙◌}
+use mathlib.Core.Path.{◌≡◌}
 use lib.ListN.{length, drop}
-use borrow.Author.Rules.{rules}
 use Rattle.preflight.specs.Ids.{occurs}
-use Rattle.preflight.proofs.Places.{occurs_end, occurs_here, occurs_on}
 use Rattle.preflight.proofs.names.occurs.Given as goal
 
 abbrev pub invariant-loop-i : goal.invariant-loop-i

@@ -1,5 +1,4 @@
 -- `preflight::names::other_has` meets its contract. Assumes nothing.
-use borrow.Author.Rules.{rules}
 use borrow.Author.Tests.{eq-eqb, ne_eqb}
 use Rattle.preflight.proofs.names.other_has.Goals as goal
 

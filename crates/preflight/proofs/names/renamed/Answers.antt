@@ -1,7 +1,5 @@
 -- `preflight::names::renamed` meets its contract. Assumes nothing.
 use mathlib.Core.Path.{sym, ◌∙◌}
-use borrow.Author.Rules.{rules}
-use borrow.Author.Tests.{not-true, not-false}
 use Rattle.preflight.proofs.names.renamed.Goals as goal
 
 pub returns-then-not-lost : goal.returns-then-not-lost

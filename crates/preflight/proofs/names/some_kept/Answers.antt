@@ -1,11 +1,8 @@
 -- `preflight::names::some_kept` meets its contract. The loop's invariant: the ids that are left decide. Assumes nothing.
-use Prim.Native.Nat.{◌-◌}
 use native.Mathlib.Omega.{arith}
-use mathlib.Core.Path.{◌≡◌, sym, ◌∙◌}
+use mathlib.Core.Path.{sym, ◌∙◌}
 use mathlib.Core.Bool.{true, false}
-use borrow.Author.Rules.{rules}
 use Rattle.reader.specs.Naming.{name_given}
-use Rattle.preflight.specs.Exchanges.{some_kept, some_kept_in}
 use Rattle.preflight.proofs.Walks.{kept_end, kept_turn, kept_start}
 use Rattle.preflight.proofs.names.some_kept.Goals as goal
 

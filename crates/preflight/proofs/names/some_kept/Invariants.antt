@@ -1,12 +1,8 @@
 -- `preflight::names::some_kept` meets its contract. The loop's invariant: the ids that are left decide. Assumes nothing.
 use Prim.Native.Nat.{◌-◌}
-use native.Mathlib.Omega.{arith}
-use mathlib.Core.Path.{◌≡◌, sym, ◌∙◌}
-use mathlib.Core.Bool.{true, false}
-use borrow.Author.Rules.{rules}
+use mathlib.Core.Path.{◌≡◌}
 use Rattle.reader.specs.Naming.{name_given}
 use Rattle.preflight.specs.Exchanges.{some_kept, some_kept_in}
-use Rattle.preflight.proofs.Walks.{kept_end, kept_turn, kept_start}
 use Rattle.preflight.proofs.names.some_kept.Given as goal
 
 abbrev pub invariant-loop-id : goal.invariant-loop-id

@@ -1,14 +1,10 @@
 -- `preflight::on_sheet::first_off` meets its contract. The loop's invariant: what is left of the round decides. Assumes nothing.
-use Prim.Native.Nat.{ℕ, ◌-◌}
-use native.Mathlib.Omega.{arith}
-use mathlib.Core.Path.{◌≡◌, refl, sym, ◌∙◌}
-use mathlib.Core.Bool.{Bool}
+use Prim.Native.Nat.{◌-◌}
+use mathlib.Core.Path.{◌≡◌}
 use lib.ListN.{length, drop}
-use borrow.Author.Rules.{rules}
 use Rattle.sheet.specs.SheetReading.{ids_in}
 use Rattle.preflight.specs.Ids.{first_place}
 use Rattle.preflight.specs.OnSheet.{off_sheet}
-use Rattle.preflight.proofs.Places.{place_end, place_here, place_on}
 use Rattle.preflight.proofs.on_sheet.first_off.Given as goal
 
 abbrev pub invariant-loop-i : goal.invariant-loop-i

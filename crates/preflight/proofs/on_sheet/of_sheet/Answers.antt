@@ -1,6 +1,5 @@
 -- `preflight::on_sheet::of_sheet` meets its contract. By the answers of its calls. Assumes nothing.
 use mathlib.Core.Path.{◌≡◌, sym, ap, ◌∙◌}
-use borrow.Author.Rules.{rules}
 use Rattle.jhash.specs.Outcome.{value}
 use Rattle.reader.specs.Slices.{slice}
 use Rattle.sheet.specs.Cases.{read_of}

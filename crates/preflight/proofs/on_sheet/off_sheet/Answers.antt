@@ -1,5 +1,4 @@
 -- `preflight::on_sheet::off_sheet` meets its contract. Assumes nothing.
-use borrow.Author.Rules.{rules}
 use Rattle.sheet.specs.SheetReading.{ids_in}
 use Rattle.preflight.proofs.Tallies.{not_once, once}
 use Rattle.preflight.proofs.on_sheet.off_sheet.Goals as goal
