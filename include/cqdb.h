@@ -27,9 +27,9 @@
    nothing; behind that page the process ends by the signal SIGBUS. So write a new file beside the old one and rename it;
    examples/c/build_list.c does, and examples/c/ask_file.c maps one.
 
-   What the calls cost. The times are those of one run of `bench/run costs` on an AMD EPYC, in ns, with names of 9 bytes, for
-   4,096 and for 100,000 entries; rows that were measured once have the first number alone. Calls on images that exceed the
-   processor's caches take longer (docs/BENCHMARKS.md has 1,000,000 entries). A put with repeats off takes a put's time and that
+   What the calls cost. The times are those of one run of `bench/run costs` on an AMD EPYC, of the code as the kit
+   rattle-kit-5b-plain built it, in ns, with names of 9 bytes, for 4,096 and for 100,000 entries; rows that were measured once
+   have the first number alone. Calls on images that exceed the processor's caches take longer (docs/BENCHMARKS.md has 1,000,000 entries). A put with repeats off takes a put's time and that
    of each earlier entry, so cqdb_put_indexed or cqdb_build is for long lists. In a forged image many buckets or ids may lead to
    one long name: there cqdb_to_id, cqdb_round, cqdb_home, cqdb_moved, cqdb_readings_agree and cqdb_next_change may take time that
    grows with the square of its bytes; in an image that cqdb_canonical accepts they are linear in them. The stack is rounded up, in
