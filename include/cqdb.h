@@ -38,8 +38,8 @@
      call                            time for each                            4,096   100,000   stack
      average                         entry                                       22        40       2
      begin                           call                                        14
-     build, a name refused, 5 words  name                                        29        43      39
-     build, a name refused, no words name and earlier name                      4.6                39
+     build, a name refused, 5 words  name                                        29        43      42
+     build, a name refused, no words name and earlier name                      4.6                42
      build, no name refused          name                                        11        15      39
      build_needs                     id                                         0.2       0.2
      bundle_append                   image in the file                          2.1
