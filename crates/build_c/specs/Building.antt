@@ -1,6 +1,6 @@
 -- What cqdb_build_parts answers: the call of `build`, whose numbers stand in a struct. A mode or a repeats mode that is
 -- neither 0 nor 1 gives 2 before all else, as cqdb_begin does, and nothing is written.
-use Rattle.std.specs.Prelude.{ℕ, ◌≡◌, true, false, cond, List, length}
+use Rattle.std.specs.Prelude.{ℕ, ◌≡◌, true, false, cond, List}
 use Rattle.jhash.specs.Outcome.{Outcome, value, refusal}
 use Rattle.build.specs.declared.Made.{Made}
 use Rattle.build.specs.Build.{building, BufferBuilt, answers_after}

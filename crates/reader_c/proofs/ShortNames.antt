@@ -1,13 +1,13 @@
 -- The lengths of the names of a change are below 2^32, since each is an entry's length word minus 1. Assumes nothing.
 use Prim.Native.Nat.{ℕ, ◌<◌}
 use native.Mathlib.Omega.{arith}
-use mathlib.Core.Path.{◌≡◌, refl, sym, ap}
+use mathlib.Core.Path.{◌≡◌}
 use mathlib.Core.List.{List}
 use mathlib.Core.Option.{Option, none, some}
 use lib.ListN.{get_or}
 use Rattle.reader.specs.Naming.{Naming, naming, length_in}
 use Rattle.reader.proofs.Lengths.{naming_small}
-use Rattle.changes.specs.Changes.{first_change, Change, changed, unchanged, change_at, next_change}
+use Rattle.changes.specs.Changes.{first_change, changed, change_at, next_change}
 
 -- the lengths of an old and a new name fit 32 bits
 pub record ShortNames (before after : Naming) : Type 0 where

@@ -2,7 +2,6 @@
 use native.Mathlib.Omega.{arith}
 use mathlib.Core.Path.{◌≡◌, refl, sym, ap, ◌∙◌}
 use lib.ListN.{length}
-use borrow.Author.Tests.{not-true, not-false}
 use Rattle.build.specs.declared.Built.{Built}
 use Rattle.build.specs.Build.{built_of}
 use Rattle.build.proofs.Whole.{refused_some}

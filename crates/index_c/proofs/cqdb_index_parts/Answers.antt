@@ -1,12 +1,10 @@
 -- `index_c::cqdb_index_parts` meets its contract: what `index` promises, of C's record. Assumes nothing.
 use mathlib.Core.Path.{◌≡◌, sym, ap, ◌∙◌}
 use mathlib.Core.Bool.{Bool}
-use borrow.Author.Tests.{not-true, not-false}
 use Rattle.writer.specs.declared.c_record.Record.{Record}
 use Rattle.writer.specs.Numbers.{valid_numbers}
-use Rattle.writer.specs.CRecord.{writer_of, CState, lent_state, known_in}
+use Rattle.writer.specs.CRecord.{writer_of, lent_state, known_in}
 use Rattle.index_c.proofs.IndexCalls.{index_unknown, index_known}
-use borrow.Author.Rules.{rules}
 use Rattle.index_c.proofs.cqdb_index_parts.Goals.{After-valid_numbers}
 use Rattle.index_c.proofs.cqdb_index_parts.Goals as goal
 

@@ -1,14 +1,12 @@
 -- `index_c::cqdb_put_indexed_parts` meets its contract: what `put_indexed` promises, of C's record. Assumes nothing.
 use mathlib.Core.Path.{◌≡◌, sym, ap, ◌∙◌}
 use mathlib.Core.Bool.{Bool}
-use borrow.Author.Tests.{not-true, not-false}
 use Rattle.writer.specs.Put.{entry_of}
 use Rattle.writer.specs.declared.c_record.Record.{Record}
 use Rattle.writer.specs.Numbers.{valid_numbers}
-use Rattle.writer.specs.CRecord.{writer_of, CState, lent_state, known_in}
+use Rattle.writer.specs.CRecord.{writer_of, lent_state, known_in}
 use Rattle.writer.proofs.CRecords.{record_stored}
 use Rattle.index_c.proofs.IndexCalls.{put_unknown, put_stored}
-use borrow.Author.Rules.{rules}
 use Rattle.index_c.proofs.cqdb_put_indexed_parts.Goals.{After-valid_numbers}
 use Rattle.index_c.proofs.cqdb_put_indexed_parts.Goals as goal
 

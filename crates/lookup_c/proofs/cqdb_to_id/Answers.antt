@@ -2,7 +2,6 @@
 use mathlib.Core.Path.{sym, ap, ◌∙◌}
 use Rattle.reader.specs.Cases.{lookup_of}
 use Rattle.lookup_c.specs.IdAnswers.{id_answer_of}
-use borrow.Author.Rules.{rules}
 use Rattle.lookup_c.proofs.cqdb_to_id.Goals as goal
 
 pub returns-in-Found : goal.returns-in-Found

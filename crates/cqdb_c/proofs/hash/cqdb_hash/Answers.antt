@@ -3,7 +3,6 @@
 use mathlib.Core.Path.{sym, ap, ◌∙◌}
 use Rattle.jhash.specs.NameHash.{outcome}
 use Rattle.cqdb_c.specs.Hash.{answer_of}
-use borrow.Author.Rules.{rules}
 use Rattle.cqdb_c.proofs.hash.cqdb_hash.Goals as goal
 
 pub returns-in-Hash : goal.returns-in-Hash

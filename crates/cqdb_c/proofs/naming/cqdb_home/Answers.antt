@@ -2,7 +2,6 @@
 use Prim.Native.Nat.{ℕ}
 use mathlib.Core.Path.{sym, ap, ◌∙◌}
 use mathlib.Core.Bool.{Bool, cond}
-use borrow.Author.Rules.{rules}
 use Rattle.cqdb_c.proofs.naming.cqdb_home.Goals as goal
 
 pub returns-then-home : goal.returns-then-home

@@ -5,7 +5,6 @@ use native.Mathlib.Omega.{arith}
 use mathlib.Core.Path.{ap, ◌∙◌}
 use Rattle.cqdb_c.specs.ReadAnswers.{place_answer_of}
 use Rattle.cqdb_c.proofs.ShortPlaces.{panel_small}
-use borrow.Author.Rules.{rules}
 use Rattle.cqdb_c.proofs.naming.cqdb_panel.Goals as goal
 
 pub place_answer-requires : goal.place_answer-requires

@@ -1,7 +1,6 @@
 -- `cqdb_c::naming::cqdb_readings_agree` meets its contract. Assumes nothing.
 use mathlib.Core.Path.{sym, ap, ◌∙◌}
 use Rattle.cqdb_c.specs.ReadAnswers.{one_if}
-use borrow.Author.Rules.{rules}
 use Rattle.cqdb_c.proofs.naming.cqdb_readings_agree.Goals as goal
 
 pub returns-then-readings_agree : goal.returns-then-readings_agree

@@ -5,7 +5,6 @@ use native.Mathlib.Omega.{arith}
 use mathlib.Core.Path.{ap, ◌∙◌}
 use Rattle.cqdb_c.specs.ReadAnswers.{place_answer_of}
 use Rattle.reader.proofs.Lengths.{naming_small}
-use borrow.Author.Rules.{rules}
 use Rattle.cqdb_c.proofs.naming.cqdb_to_str.Goals as goal
 
 pub place_answer-requires : goal.place_answer-requires

@@ -5,7 +5,6 @@ use Rattle.reader.specs.declared.Named.{Named}
 use Rattle.reader.specs.Cases.{naming_of}
 use Rattle.reader.specs.Naming.{length_in}
 use Rattle.cqdb_c.specs.ReadAnswers.{place_answer_of}
-use borrow.Author.Rules.{rules}
 use Rattle.cqdb_c.proofs.naming.place_answer.Goals as goal
 
 pub overflow_cast-result : goal.overflow_cast-result

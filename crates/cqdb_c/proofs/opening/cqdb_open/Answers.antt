@@ -3,7 +3,6 @@
 use mathlib.Core.Path.{sym, ap, ◌∙◌}
 use Rattle.reader.specs.Cases.{opened_of}
 use Rattle.cqdb_c.specs.ReadAnswers.{open_answer_of}
-use borrow.Author.Rules.{rules}
 use Rattle.cqdb_c.proofs.opening.cqdb_open.Goals as goal
 
 pub returns-in-Num : goal.returns-in-Num

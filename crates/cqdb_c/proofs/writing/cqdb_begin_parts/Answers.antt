@@ -1,15 +1,11 @@
 -- `cqdb_c::writing::cqdb_begin_parts` meets its contract: what `begin` promises, stored in the writer. Assumes nothing.
-use Prim.Native.Nat.{ℕ}
 use mathlib.Core.Path.{◌≡◌, sym, ap, ◌∙◌}
-use mathlib.Core.List.{List}
 use lib.ListN.{length}
-use borrow.Author.Tests.{not-true, not-false}
 use Rattle.writer.specs.declared.Begun.{Begun}
 use Rattle.writer.specs.State.{begun_of}
 use Rattle.writer.specs.declared.c_record.Record.{Record}
-use Rattle.cqdb_c.specs.Writing.{LentWriter, lent_writer, numbers_of, sizes_of, beginning_of, number_in, left_by_begin}
+use Rattle.cqdb_c.specs.Writing.{lent_writer, numbers_of, sizes_of, beginning_of, number_in, left_by_begin}
 use Rattle.cqdb_c.proofs.CCalls.{begin_unknown, begin_known, stored}
-use borrow.Author.Rules.{rules}
 use Rattle.cqdb_c.proofs.writing.cqdb_begin_parts.Goals.{After-begin-begun}
 use Rattle.cqdb_c.proofs.writing.cqdb_begin_parts.Goals as goal
 

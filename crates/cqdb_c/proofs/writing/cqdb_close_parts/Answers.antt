@@ -1,13 +1,11 @@
 -- `cqdb_c::writing::cqdb_close_parts` meets its contract: what `close` promises, of C's record. Assumes nothing.
 use mathlib.Core.Path.{◌≡◌, sym, ap, ◌∙◌}
 use mathlib.Core.Bool.{Bool}
-use borrow.Author.Tests.{not-true, not-false}
 use Rattle.writer.specs.declared.c_record.Record.{Record}
 use Rattle.writer.specs.Numbers.{valid_numbers}
-use Rattle.writer.specs.CRecord.{writer_of, CState, lent_state, known_in}
+use Rattle.writer.specs.CRecord.{writer_of, lent_state, known_in}
 use Rattle.cqdb_c.proofs.CCalls.{close_unknown}
 use Rattle.cqdb_c.proofs.InPlace.{close_in_place}
-use borrow.Author.Rules.{rules}
 use Rattle.cqdb_c.proofs.writing.cqdb_close_parts.Goals.{After-valid_numbers}
 use Rattle.cqdb_c.proofs.writing.cqdb_close_parts.Goals as goal
 

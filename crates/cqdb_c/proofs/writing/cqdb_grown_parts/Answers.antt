@@ -1,14 +1,12 @@
 -- `cqdb_c::writing::cqdb_grown_parts` meets its contract: what `grown` promises, of C's record. Assumes nothing.
 use mathlib.Core.Path.{◌≡◌, sym, ap, ◌∙◌}
 use mathlib.Core.Bool.{Bool}
-use borrow.Author.Tests.{not-true, not-false}
 use Rattle.writer.specs.declared.c_record.Record.{Record}
 use Rattle.writer.specs.Numbers.{valid_numbers}
 use Rattle.writer.specs.CRecord.{writer_of, record_in}
 use Rattle.cqdb_c.proofs.GrownCalls.{grown_unknown}
 use Rattle.writer.proofs.CRecords.{length_stored}
 use Rattle.cqdb_c.proofs.InPlace.{grown_answered, grown_stored}
-use borrow.Author.Rules.{rules}
 use Rattle.cqdb_c.proofs.writing.cqdb_grown_parts.Goals.{After-valid_numbers}
 use Rattle.cqdb_c.proofs.writing.cqdb_grown_parts.Goals as goal
 

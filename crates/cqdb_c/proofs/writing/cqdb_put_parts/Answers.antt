@@ -1,15 +1,13 @@
 -- `cqdb_c::writing::cqdb_put_parts` meets its contract: what `put` promises, of C's record. Assumes nothing.
 use mathlib.Core.Path.{◌≡◌, sym, ap, ◌∙◌}
 use mathlib.Core.Bool.{Bool}
-use borrow.Author.Tests.{not-true, not-false}
 use Rattle.writer.specs.Put.{entry_of}
 use Rattle.writer.specs.declared.c_record.Record.{Record}
 use Rattle.writer.specs.Numbers.{valid_numbers}
-use Rattle.writer.specs.CRecord.{writer_of, CState, lent_state, known_in}
+use Rattle.writer.specs.CRecord.{writer_of, lent_state, known_in}
 use Rattle.cqdb_c.proofs.CCalls.{put_unknown}
 use Rattle.writer.proofs.CRecords.{record_stored}
 use Rattle.cqdb_c.proofs.InPlace.{put_answered, put_stored}
-use borrow.Author.Rules.{rules}
 use Rattle.cqdb_c.proofs.writing.cqdb_put_parts.Goals.{After-valid_numbers}
 use Rattle.cqdb_c.proofs.writing.cqdb_put_parts.Goals as goal
 

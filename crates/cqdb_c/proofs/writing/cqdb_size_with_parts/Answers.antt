@@ -1,5 +1,4 @@
 -- `cqdb_c::writing::cqdb_size_with_parts` meets its contract: what `size_with` promises, of C's record. Assumes nothing.
-use Prim.Native.Nat.{ℕ}
 use native.Mathlib.Omega.{arith}
 use mathlib.Core.Path.{◌≡◌, refl, ap, ◌∙◌}
 use mathlib.Core.Bool.{true, false}
@@ -11,7 +10,6 @@ use Rattle.writer.specs.State.{finished_size}
 use Rattle.writer.specs.Put.{writer_after_put}
 use Rattle.writer.specs.CRecord.{writer_of, record_in}
 use Rattle.cqdb_c.proofs.Sizes.{size_by}
-use borrow.Author.Rules.{rules}
 use Rattle.cqdb_c.proofs.writing.cqdb_size_with_parts.Goals.{After-record_in-w, After-writer_of, Else-w-ge9223372036854775808}
 use Rattle.cqdb_c.proofs.writing.cqdb_size_with_parts.Goals as goal
 

@@ -2,7 +2,6 @@
 use Prim.Native.Nat.{ℕ}
 use mathlib.Core.Path.{sym, ap, ◌∙◌}
 use mathlib.Core.Bool.{Bool, cond}
-use borrow.Author.Rules.{rules}
 use Rattle.lists_c.proofs.images.cqdb_canonical.Goals as goal
 
 pub returns-then-is_canonical : goal.returns-then-is_canonical

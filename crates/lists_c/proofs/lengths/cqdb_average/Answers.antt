@@ -1,6 +1,5 @@
 -- `lists_c::lengths::cqdb_average` meets its contract: what `average` promises of the answer, put into the struct. Assumes nothing.
 use mathlib.Core.Path.{sym, ap, ◌∙◌}
-use borrow.Author.Rules.{rules}
 use Rattle.search_length.specs.Average.{averaged_of}
 use Rattle.lists_c.specs.AverageAnswer.{average_answer_of}
 use Rattle.lists_c.proofs.lengths.cqdb_average.Goals as goal

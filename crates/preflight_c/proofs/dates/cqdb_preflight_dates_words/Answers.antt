@@ -1,6 +1,5 @@
 -- `preflight_c::dates::cqdb_preflight_dates_words` meets its contract: the struct of each answer. Assumes nothing.
 use mathlib.Core.Path.{sym, ap, ◌∙◌}
-use borrow.Author.Rules.{rules}
 use Rattle.preflight_c.specs.PreflightDatesAnswer.{dates_answer}
 use Rattle.preflight_c.proofs.dates.cqdb_preflight_dates_words.Goals as goal
 

@@ -1,6 +1,5 @@
 -- `preflight_c::reports::answer` meets its contract: the struct of each verdict. Assumes nothing.
 use mathlib.Core.Path.{sym, ap, ◌∙◌}
-use borrow.Author.Rules.{rules}
 use Rattle.preflight_c.specs.PreflightAnswer.{numbered}
 use Rattle.preflight_c.proofs.reports.answer.Goals as goal
 

@@ -1,6 +1,5 @@
 -- `preflight_c::reports::cqdb_preflight_first_parts` meets its contract. Assumes nothing.
 use mathlib.Core.Path.{ap, ◌∙◌}
-use borrow.Author.Rules.{rules}
 use Rattle.preflight_c.specs.PreflightAnswer.{preflight_answer}
 use Rattle.preflight_c.proofs.reports.cqdb_preflight_first_parts.Goals as goal
 

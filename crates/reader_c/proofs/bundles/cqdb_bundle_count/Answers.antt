@@ -2,7 +2,6 @@
 use mathlib.Core.Path.{sym, ap, ◌∙◌}
 use Rattle.bundle.specs.Cases.{counted_of}
 use Rattle.reader_c.specs.Bundle.{count_answer}
-use borrow.Author.Rules.{rules}
 use Rattle.reader_c.proofs.bundles.cqdb_bundle_count.Goals as goal
 
 pub returns-in-Images : goal.returns-in-Images

@@ -2,7 +2,6 @@
 use mathlib.Core.Path.{sym, ap, ◌∙◌}
 use Rattle.changes.specs.Cases.{moved_of}
 use Rattle.reader_c.specs.ChangeAnswers.{moved_answer}
-use borrow.Author.Rules.{rules}
 use Rattle.reader_c.proofs.change.cqdb_moved.Goals as goal
 
 pub returns-in-Other : goal.returns-in-Other

@@ -4,8 +4,6 @@ use native.Mathlib.Omega.{arith}
 use mathlib.Core.Path.{sym, ap, ◌∙◌}
 use Rattle.reader.specs.Cases.{naming_of}
 use Rattle.changes.specs.Cases.{change_of}
-use Rattle.reader_c.specs.declared.change.NameAnswer.{NameAnswer}
-use Rattle.reader_c.specs.declared.change.ChangeAnswer.{ChangeAnswer}
 use Rattle.reader_c.specs.ChangeAnswers.{change_answer}
 use Rattle.reader_c.proofs.ShortNames.{ShortNames, change_short}
 use Rattle.reader_c.proofs.change.cqdb_next_change.Goals.{In-At}

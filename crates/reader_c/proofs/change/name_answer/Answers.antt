@@ -5,7 +5,6 @@ use Rattle.reader.specs.declared.Named.{Named}
 use Rattle.reader.specs.Cases.{naming_of}
 use Rattle.reader.specs.Naming.{length_in}
 use Rattle.reader_c.specs.ChangeAnswers.{name_answer}
-use borrow.Author.Rules.{rules}
 use Rattle.reader_c.proofs.change.name_answer.Goals as goal
 
 pub overflow_cast-result : goal.overflow_cast-result

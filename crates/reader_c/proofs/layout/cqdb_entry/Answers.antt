@@ -1,14 +1,11 @@
 -- `reader_c::layout::cqdb_entry` meets its contract. Assumes nothing.
-use Prim.Native.Nat.{ℕ, ◌+◌, ◌-◌}
+use Prim.Native.Nat.{◌+◌, ◌-◌}
 use native.Mathlib.Omega.{arith}
-use mathlib.Core.Path.{◌≡◌, refl, sym, ◌∙◌}
+use mathlib.Core.Path.{refl, sym, ◌∙◌}
 use mathlib.Core.Bool.{true, false}
-use mathlib.Core.List.{List}
 use borrow.Author.Tests.{eq-eqb, ne_eqb}
 use Rattle.image.proofs.Unbroken.{unbroken}
-use Rattle.reader_c.specs.declared.layout.EntryAnswer.{EntryAnswer}
 use Rattle.reader_c.proofs.Places.{entry_by}
-use borrow.Author.Rules.{rules}
 use Rattle.reader_c.proofs.layout.cqdb_entry.Goals as goal
 
 pub returns-then-offset-eq0 : goal.returns-then-offset-eq0

@@ -1,12 +1,10 @@
 -- `reader_c::layout::cqdb_table` meets its contract. Assumes nothing.
-use Prim.Native.Nat.{ℕ}
 use native.Mathlib.Omega.{arith}
 use mathlib.Core.Path.{refl, ◌∙◌}
 use mathlib.Core.Bool.{true, false}
 use lib.ListN.{length}
 use borrow.Author.Tests.{lt-ltb, le-ltb}
 use Rattle.reader_c.proofs.Places.{table_by}
-use borrow.Author.Rules.{rules}
 use Rattle.reader_c.proofs.layout.cqdb_table.Goals as goal
 
 pub returns-then-image-lt-HEAD_SIZE : goal.returns-then-image-lt-HEAD_SIZE

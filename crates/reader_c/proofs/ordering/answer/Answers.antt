@@ -3,9 +3,6 @@ use mathlib.Core.Path.{sym, ap}
 use Rattle.reader_c.specs.OrderAnswer.{order_answer}
 use Rattle.order.specs.Cases.{verdict_of}
 use Rattle.order.specs.declared.Order.{Order}
-use borrow.Author.Rules.{rules}
-use Rattle.reader_c.proofs.ordering.answer.Reads as reads
-use Rattle.reader_c.proofs.ordering.answer.Lts as lts
 use Rattle.reader_c.proofs.ordering.answer.Goals as goal
 
 pub returns-in-Yes : goal.returns-in-Yes

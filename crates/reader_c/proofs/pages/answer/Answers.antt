@@ -1,6 +1,5 @@
 -- `reader_c::pages::answer` meets its contract: each case of the outcome, put into the struct. Assumes nothing.
 use mathlib.Core.Path.{sym, ap}
-use borrow.Author.Rules.{rules}
 use Rattle.page.specs.declared.Printed.{Printed}
 use Rattle.page.specs.Call.{printed_of}
 use Rattle.reader_c.specs.PageAnswer.{page_answer_of}

@@ -3,7 +3,6 @@ use mathlib.Core.Path.{sym, ap, ◌∙◌}
 use Rattle.sheet.specs.Cases.{read_of}
 use Rattle.sheet.specs.declared.ReadAnswer.{ReadAnswer}
 use Rattle.reader_c.specs.SheetAnswers.{sheet_answer}
-use borrow.Author.Rules.{rules}
 use Rattle.reader_c.proofs.sheets.cqdb_sheet_read.Goals as goal
 
 pub returns-in-Whole : goal.returns-in-Whole

@@ -6,10 +6,6 @@ use Rattle.reader.proofs.Lengths.{named_small}
 use Rattle.validity.specs.Cases.{named_on_of}
 use Rattle.validity.proofs.WindowTests.{named_so}
 use Rattle.reader_c.specs.NameOnAnswer.{on_answer}
-use borrow.Author.Rules.{rules}
-use Rattle.reader_c.proofs.windows.answer_by.Reads as reads
-use Rattle.reader_c.proofs.windows.answer_by.Lts as lts
-use Rattle.validity.proofs.place_by_state.Reads as place-by-state-reads
 use Rattle.reader_c.proofs.windows.answer_by.Goals as goal
 
 pub overflow_cast-result : goal.overflow_cast-result
