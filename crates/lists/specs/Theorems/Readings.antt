@@ -1,5 +1,5 @@
 -- Both readings of names in the image of a list: 02 (v). Put refuses names with a zero byte, so the image of every list
--- of calls from a fresh record, two-way as in demand 3 or one_way, passes the check.
+-- of calls from a fresh record, two-way as in demand 3 or one-way, passes the check.
 use Rattle.std.specs.Prelude.{◌≤◌, ◌≡◌, true, List, ℕ, length}
 use Rattle.image.specs.declared.Mode.TheVariants.{Twoway, Oneway}
 use Rattle.image.specs.Image.{head_size}
