@@ -175,9 +175,6 @@ def main():
         if new != text:
             open(p, "w", encoding="utf-8").write(new)
     print(f"{len(names)} names")
-    with open("/tmp/snake_names.txt", "w") as f:
-        for a, b in sorted(names.items()):
-            f.write(f"{a} {b}\n")
 
 
 if __name__ == "__main__":
