@@ -22,7 +22,8 @@ sum_of() {
         rt version
         for crate in $(crates_below "$1"); do
             grep -E "^$crate( staticlib)?:" crates.txt
-            find "crates/$crate/src" "crates/$crate/specs" "crates/$crate/proofs" -type f -print0 2>/dev/null | LC_ALL=C sort -z | xargs -0 -r sha256sum
+            find "crates/$crate" -name out -prune -o -type f \( -path '*/src/*' -o -path '*/specs/*' -o -path '*/proofs/*' \) -print0 |
+                LC_ALL=C sort -z | xargs -0 -r sha256sum
         done
     } | sha256sum | cut -d ' ' -f 1
 }
