@@ -37,6 +37,8 @@
 //     last                         it ends here
 #![tactic(auto)]
 
+ghost use Rattle.std.specs.Prelude.{◌≤◌, length, IfOk};
+
 use image::Mode;
 use jhash::Hashed;
 use std::io;
@@ -169,17 +171,30 @@ fn replay<W: Write>(
     Ok(seen)
 }
 
-// How much of the input is read.
-const MOST: u64 = 262144;
+// Reads an input to its end, or until the buffer is full, and says how many bytes that is. A proved loop has to end, and
+// nothing says that an input does: it counts its turns up to a number that no run uses up.
+fn read_full<R: Read>(input: &mut R, buf: &mut [u8]) -> io::Result<usize>
+    ensures { IfOk result (λ n. n ≤ length buf.old) }
+{
+    let mut n = 0;
+    for _ in 0..u64::MAX {
+        let got = input.read(&mut buf[n..])?;
+        if got == 0 {
+            break;
+        }
+        n += got;
+    }
+    Ok(n)
+}
 
 // A read or a write that fails ends the program with its error.
 fn main(rt: HostRuntime) -> io::Result<()> {
-    let mut text = Vec::new(rt.alloc());
-    rt.reader().take(MOST).read_to_end(&mut text)?;
+    let mut text = [0u8; 262144];
     let mut image = [0u8; 16384];
     let mut buf = [0u8; 16384];
     let mut counts = [0u32; 256];
+    let n = read_full(&mut rt.reader(), &mut text)?;
     let mut output = io::writer(&rt);
-    let seen = replay(&mut output, &text, &mut image, &mut counts, &mut buf)?;
+    let seen = replay(&mut output, &text[..n], &mut image, &mut counts, &mut buf)?;
     verdict::print(&mut output, seen)
 }
