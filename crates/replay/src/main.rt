@@ -171,8 +171,8 @@ fn replay<W: Write>(
     Ok(seen)
 }
 
-// Reads an input to its end, or until the buffer is full, and says how many bytes that is. A proved loop has to end, and
-// nothing says that an input does: it counts its turns up to a number that no run uses up.
+// Reads an input to its end, or until the buffer is full, and says how many bytes that is. A proved loop has to end,
+// and nothing says that an input does: it counts its turns up to a number that no run uses up.
 fn read_full<R: Read>(input: &mut R, buf: &mut [u8]) -> io::Result<usize>
     ensures { IfOk result (λ n. n ≤ length buf.old) }
 {
