@@ -11,9 +11,11 @@ use Rattle.reader.specs.Lookup.{Lookup, found, nothing, lookup_by, lookup}
 use Rattle.reader.proofs.Searches.{lookup_own}
 use Rattle.image.proofs.NameEnds.{length_names}
 use Rattle.jhash.proofs.Outcomes.{hash_or_zero_short}
-use Rattle.batch.specs.RoundNames.{names, nth}
+use Rattle.batch.specs.RoundNames.{nth}
 use Rattle.batch.specs.Round.{answer_words}
-use Rattle.batch.specs.Steps.Duplicates.{hash_or_zero, Listed, RisingTo, IsFirst, IsUnique}
+use Rattle.batch.specs.declared.names.Round.{Round}
+use Rattle.batch.specs.Steps.HashedNames.{hash_or_zero, HashedNames}
+use Rattle.batch.specs.Steps.Duplicates.{round_names, Listed, RisingTo, IsFirst, IsUnique}
 use Rattle.batch.specs.Steps.Answers.{put_words, words_in, HasPlace, Has, HasAnswer, ListedNames, Answered, UniqueAnswered, Source}
 use Rattle.batch.proofs.IndexLists.{listed_more, listed_has}
 
@@ -121,21 +123,21 @@ by_hash image name x h e k =
     ap (λ (l : List ℕ). lookup_by image l h) e ∙ lookup_own image x h (λ short. k ∙ hash_or_zero_short x short)
 
 -- the first x of m listed names have their answers
-pub record Finding (image bytes ends list before after : List ℕ) (m x : ℕ) : Type 0 where
-  pub inside : x ≤ m
+pub record Finding (round : Round) (list before after : List ℕ) (x : ℕ) : Type 0 where
+  pub inside : x ≤ length list
   pub long : length after ≡ length before
-  pub answered : Answered image bytes ends list before after x
+  pub answered : Answered round list before after x
 
-pub finding_start : (image bytes ends list before : List ℕ) (m : ℕ) → Finding image bytes ends list before before m 0
-finding_start image bytes ends list before m =
+pub finding_start : (round : Round) (list before : List ℕ) → Finding round list before before 0
+finding_start round list before =
     record {
       inside = omega arith;
       long = refl;
       answered = record { stays = λ i r. r; stored = λ y h. absurd (omega arith); others = λ i n w h. sym (words_at before i w h) };
     }
 
-pub finding_end : {image bytes ends list before after : List ℕ} {m x : ℕ} → Finding image bytes ends list before after m x → m ≤ x
-    → Answered image bytes ends list before after m
+pub finding_end : {round : Round} {list before after : List ℕ} {x : ℕ} → Finding round list before after x → length list ≤ x
+    → Answered round list before after (length list)
 finding_end f all =
     record {
       stays = f.answered.stays;
@@ -143,31 +145,30 @@ finding_end f all =
       others = λ i n. f.answered.others i (λ a. n (listed_more f.inside a));
     }
 
-module _ {bytes ends hashes list before : List ℕ} {m : ℕ} (pre : ListedNames bytes ends hashes list before m) where
+module _ {round : Round} {list before : List ℕ} (pre : ListedNames round list before) where
   -- no two of the listed names are equal
-  pub no_two_equal : (x y : ℕ) → x < y → y < m → nth (names bytes ends) (get_or list x 0) ≡ nth (names bytes ends) (get_or list y 0) → ⊥
+  pub no_two_equal : (x y : ℕ) → x < y → y < length list → nth (round_names round) (get_or list x 0) ≡ nth (round_names round) (get_or list y 0) → ⊥
   no_two_equal x y h k = pre.first y k (get_or list x 0) (pre.rising x y h k)
 
   -- some of them, in another list that rises
-  pub listed_part : {part after : List ℕ} {q : ℕ} → length after ≡ length before → q ≤ m → q ≤ length part → RisingTo part q
-      → ((z : ℕ) → z < q → Listed list m (get_or part z 0)) → ListedNames bytes ends hashes part after q
-  listed_part long few capacity rising listed =
+  pub listed_part : {part after : List ℕ} → length after ≡ length before → length part ≤ length list → RisingTo part (length part)
+      → ((z : ℕ) → z < length part → Listed list (length list) (get_or part z 0)) → ListedNames round part after
+  listed_part long few rising listed =
       record {
-        first = λ z h. listed_has (IsFirst (names bytes ends)) pre.first (listed z h);
+        first = λ z h. listed_has (IsFirst (round_names round)) pre.first (listed z h);
         rising = rising;
-        names = pre.names;
         places = omega (arith, pre.places);
         few = omega (arith, pre.few);
-        capacity = capacity;
-        below = λ z h. listed_has (λ (i : ℕ). i < length ends) pre.below (listed z h);
+        below = λ z h. listed_has (λ (i : ℕ). i < length round.names.ends.now) pre.below (listed z h);
       }
 
   -- one more has its answer, which was looked up with its hash; what has its answer keeps it, and the other places are kept
-  pub finding_step : {image answers after name : List ℕ} {x : ℕ} (v : Lookup) → x < m → name ≡ nth (names bytes ends) (get_or list x 0)
-      → v ≡ lookup_by image name (get_or hashes (get_or list x 0) 0) → after ≡ put_words answers (get_or list x 0) (answer_words v)
-      → Finding image bytes ends list before answers m x → Finding image bytes ends list before after m (x + 1)
-  finding_step {image} {answers} {after} {name} {x} v h is answer stored old =
-      subst (λ (r : List ℕ). Finding image bytes ends list before r m (x + 1)) (sym stored)
+  pub finding_step : HashedNames round.names.bytes.now round.names.ends.now round.hashes.now → {answers after name : List ℕ} {x : ℕ} (v : Lookup)
+      → x < length list → name ≡ nth (round_names round) (get_or list x 0)
+      → v ≡ lookup_by round.image.now name (get_or round.hashes.now (get_or list x 0) 0) → after ≡ put_words answers (get_or list x 0) (answer_words v)
+      → Finding round list before answers x → Finding round list before after (x + 1)
+  finding_step hashed {answers} {after} {name} {x} v h is answer stored old =
+      subst (λ (r : List ℕ). Finding round list before r (x + 1)) (sym stored)
       (record {
         inside = omega arith;
         long = length_put answers i (answer_words v) ∙ old.long;
@@ -175,20 +176,21 @@ module _ {bytes ends hashes list before : List ℕ} {m : ℕ} (pre : ListedNames
       })
     where
       xs : List (List ℕ)
-      xs = names bytes ends
+      xs = round_names round
 
       i : ℕ
       i = get_or list x 0
 
-      own : v ≡ lookup image (nth xs i)
-      own = answer ∙ by_hash image name (nth xs i) (get_or hashes i 0) is (pre.names.hashed i (omega (arith, length_names bytes ends, pre.below x h)))
+      own : v ≡ lookup round.image.now (nth xs i)
+      own = answer ∙ by_hash round.image.now name (nth xs i) (get_or round.hashes.now i 0) is
+          (hashed.hashed i (omega (arith, length_names round.names.bytes.now round.names.ends.now, pre.below x h)))
 
-      stays : (j : ℕ) → ((j ≡ i → ⊥) → HasAnswer image xs answers j) → HasAnswer image xs (put_words answers i (answer_words v)) j
+      stays : (j : ℕ) → ((j ≡ i → ⊥) → HasAnswer round.image.now xs answers j) → HasAnswer round.image.now xs (put_words answers i (answer_words v)) j
       stays j r =
-          has_after answers i (answer_words v) (omega (arith, pre.below x h, pre.places, old.long)) j (answer_words (lookup image (nth xs j)))
-          (λ e w k. ap (λ (a : Lookup). get_or (answer_words a) w 0) (own ∙ ap (λ (n : ℕ). lookup image (nth xs n)) (sym e))) r
+          has_after answers i (answer_words v) (omega (arith, pre.below x h, pre.places, old.long)) j (answer_words (lookup round.image.now (nth xs j)))
+          (λ e w k. ap (λ (a : Lookup). get_or (answer_words a) w 0) (own ∙ ap (λ (n : ℕ). lookup round.image.now (nth xs n)) (sym e))) r
 
-      all : (y : ℕ) → y < x + 1 → HasAnswer image xs (put_words answers i (answer_words v)) (get_or list y 0)
+      all : (y : ℕ) → y < x + 1 → HasAnswer round.image.now xs (put_words answers i (answer_words v)) (get_or list y 0)
       all y k =
           stays (get_or list y 0)
           (λ other. elim (ℕ_discrete y x) [ yes e ↦ absurd (other (ap (λ (n : ℕ). get_or list n 0) e)) | no e ↦ old.answered.stored y (omega arith) ])
@@ -201,15 +203,15 @@ module _ {bytes ends hashes list before : List ℕ} {m : ℕ} (pre : ListedNames
 -- ---- the answers of some of the listed names, and then of others
 
 -- what is kept of the places: those that were right, and those of names that are not listed
-pub record Kept (image bytes ends list before after : List ℕ) (m : ℕ) : Type 0 where
-  pub stays : (i : ℕ) → HasAnswer image (names bytes ends) before i → HasAnswer image (names bytes ends) after i
+pub record Kept (round : Round) (list before after : List ℕ) (m : ℕ) : Type 0 where
+  pub stays : (i : ℕ) → HasAnswer round.image.now (round_names round) before i → HasAnswer round.image.now (round_names round) after i
   pub others : (i : ℕ) → (Listed list m i → ⊥) → Has after i (words_in before i)
 
-pub kept_start : (image bytes ends list before : List ℕ) (m : ℕ) → Kept image bytes ends list before before m
-kept_start image bytes ends list before m = record { stays = λ i r. r; others = λ i n w h. sym (words_at before i w h) }
+pub kept_start : (round : Round) (list before : List ℕ) (m : ℕ) → Kept round list before before m
+kept_start round list before m = record { stays = λ i r. r; others = λ i n w h. sym (words_at before i w h) }
 
-pub kept_step : {image bytes ends list part before answers after : List ℕ} {m q : ℕ} → ((z : ℕ) → z < q → Listed list m (get_or part z 0))
-    → Kept image bytes ends list before answers m → Answered image bytes ends part answers after q → Kept image bytes ends list before after m
+pub kept_step : {round : Round} {list part before answers after : List ℕ} {m q : ℕ} → ((z : ℕ) → z < q → Listed list m (get_or part z 0))
+    → Kept round list before answers m → Answered round part answers after q → Kept round list before after m
 kept_step {list = list} {answers = answers} {m = m} listed old new =
     record {
       stays = λ i r. new.stays i (old.stays i r);

@@ -6,8 +6,8 @@ use native.Mathlib.Decide.{ℕ_discrete}
 use mathlib.Core.Path.{◌≡◌, refl, sym, ap, subst, ◌∙◌}
 use mathlib.Core.Bool.{Bool, true, false}
 use mathlib.Core.List.{List, [], ◌∷◌, ◌++◌, map, map-append, append-nil}
-use lib.ListN.{length, get_or, set, take, length-set, length-map, length-append}
-use lib.Seq.{get_or-set_same, get_or-set_other, take-suc, take-set-le}
+use lib.ListN.{length, get_or, set, take, length-set, length-map, length-append, length-take}
+use lib.Seq.{get_or-set_same, get_or-set_other, take-suc, take-set-le, take-length}
 use Rattle.image.specs.Bytes.{same}
 use Rattle.image.specs.Tables.{Bucket, empty, start, probe_sequence, first_empty, insert_all, filled}
 use Rattle.image.proofs.AllOfList.{All, all_map, all_image, all_append, all_middle}
@@ -19,8 +19,9 @@ use Rattle.lookup_laws.specs.Steps.HasMatch.{has_match}
 use Rattle.lookup_laws.proofs.TableContents.{NotEmpty}
 use Rattle.batch.specs.RoundNames.{different_from, different, nth}
 use Rattle.batch.specs.Steps.Slots.{bucket_of_number, round_slot, SlotsHold}
-use Rattle.batch.specs.Steps.Duplicates.{IfZero, Listed, hash_or_zero, Hashes, EqualBefore, FoundOrInserted, Deduplicated}
-use Rattle.batch.proofs.IndexLists.{listed_old, listed_new, each_step, rising_step}
+use Rattle.batch.specs.Steps.HashedNames.{hash_or_zero, Hashes}
+use Rattle.batch.specs.Steps.Duplicates.{IfZero, Listed, EqualBefore, FoundOrInserted, Deduplicated}
+use Rattle.batch.proofs.IndexLists.{listed_old, listed_new, each_step, rising_step, taken_all, taken_rising, taken_listed}
 use Rattle.batch.proofs.Different.{seen_before, not_seen_before, different_next}
 use Rattle.lookup_laws.proofs.SlotSearch.{none_empty, none_equal, filled_next}
 
@@ -180,6 +181,7 @@ deduplicated_none xs equals list =
     record {
       equal = λ j h. absurd (omega arith);
       count = omega arith;
+      capacity = omega arith;
       below = λ x h. absurd (omega arith);
       only_unique = λ x h. absurd (omega arith);
       rising = λ x y h k. absurd (omega arith);
@@ -234,6 +236,7 @@ module _ {xs : List (List ℕ)} {equals list : List ℕ} {i m q r : ℕ} (inside
       record {
         equal = each (EqualBefore xs) old.equal new;
         count = omega (arith, small, old.count);
+        capacity = omega (arith, small, length-set list m i);
         below = each_step (λ (v : ℕ). v < i + 1) list m (m + r) i room' (omega (arith, small)) (λ z h. omega (arith, old.below z h)) (λ h. omega arith);
         only_unique = each_step (λ (v : ℕ). get_or (set equals i q) v 0 ≡ 0) list m (m + r) i room' (omega (arith, small))
             (λ z h. get_or-set_other equals i (get_or list z 0) q 0 (λ e. omega (arith, old.below z h)) ∙ old.only_unique z h)
@@ -245,3 +248,19 @@ module _ {xs : List (List ℕ)} {equals list : List ℕ} {i m q r : ℕ} (inside
         listed_names = names_step;
         all_unique = λ h. each (λ (j v : ℕ). v ≡ 0) (old.all_unique (omega (arith, small))) (zero (omega (arith, old.count)));
       }
+
+-- the list of the unique names as far as it is filled
+pub deduplicated_taken : {xs : List (List ℕ)} {equals list : List ℕ} {n r : ℕ} → Deduplicated xs equals list n r
+    → Deduplicated xs equals (take r list) n (length (take r list))
+deduplicated_taken {xs} {equals} {list} {n} {r} old =
+    record {
+      equal = old.equal;
+      count = omega (arith, old.count, length-take r list);
+      capacity = omega arith;
+      below = taken_all (λ (v : ℕ). v < n) list r old.below;
+      only_unique = taken_all (λ (v : ℕ). get_or equals v 0 ≡ 0) list r old.only_unique;
+      rising = taken_rising list r old.rising;
+      listed = λ i h u. taken_listed list r i old.capacity (old.listed i h u);
+      listed_names = ap (map (nth xs)) (take-length (take r list)) ∙ old.listed_names;
+      all_unique = λ h. old.all_unique (omega (arith, length-take r list));
+    }

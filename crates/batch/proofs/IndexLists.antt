@@ -4,8 +4,8 @@ use native.Mathlib.Omega.{arith}
 use native.Mathlib.Decide.{ℕ_discrete}
 use mathlib.Core.Path.{◌≡◌, sym, ap, subst, ◌∙◌}
 use mathlib.Core.List.{List}
-use lib.ListN.{length, get_or, set}
-use lib.Seq.{get_or-set_same, get_or-set_other}
+use lib.ListN.{length, get_or, set, take, length-take}
+use lib.Seq.{get_or-set_same, get_or-set_other, get_or-take}
 use Rattle.batch.specs.Steps.Duplicates.{Listed, RisingTo}
 
 -- what is listed stays so
@@ -56,3 +56,25 @@ both_step Q l o p q i e room room' few old new z h =
           subst (λ (v : ℕ). Q (get_or (set l p i) z 0) v) (sym (get_or-set_other o p z e 0 f))
           (subst (λ (v : ℕ). Q v (get_or o z 0)) (sym (get_or-set_other l p z i 0 f)) (old z (omega arith)))
     ]
+
+-- ---- the front of a list, as a list of its own
+
+pub taken_all : (Q : ℕ → Type 0) (l : List ℕ) (n : ℕ) → ((z : ℕ) → z < n → Q (get_or l z 0)) → (z : ℕ) → z < length (take n l) → Q (get_or (take n l) z 0)
+taken_all Q l n all z h = let k : z < n = omega (arith, length-take n l) in subst Q (sym (get_or-take n l z 0 k)) (all z k)
+
+-- the same of two lists
+pub taken_both : (Q : ℕ → ℕ → Type 0) (l o : List ℕ) (n : ℕ) → ((z : ℕ) → z < n → Q (get_or l z 0) (get_or o z 0)) → (z : ℕ) → z < length (take n l)
+    → Q (get_or (take n l) z 0) (get_or (take n o) z 0)
+taken_both Q l o n all z h =
+    let k : z < n = omega (arith, length-take n l) in
+    subst (λ (v : ℕ). Q v (get_or (take n o) z 0)) (sym (get_or-take n l z 0 k))
+    (subst (λ (v : ℕ). Q (get_or l z 0) v) (sym (get_or-take n o z 0 k)) (all z k))
+
+pub taken_rising : (l : List ℕ) (n : ℕ) → RisingTo l n → RisingTo (take n l) (length (take n l))
+taken_rising l n old x y h k =
+    let k' : y < n = omega (arith, length-take n l) in
+    omega (arith, old x y h k', get_or-take n l x 0 (omega arith), get_or-take n l y 0 k')
+
+pub taken_listed : (l : List ℕ) (n i : ℕ) → n ≤ length l → Listed l n i → Listed (take n l) (length (take n l)) i
+taken_listed l n i room a =
+    record { place = a.place; inside = omega (arith, a.inside, length-take n l); is = get_or-take n l a.place 0 a.inside ∙ a.is }

@@ -2,43 +2,23 @@
 use Prim.Native.Nat.{ℕ, ◌+◌, ◌*◌, ◌-◌, ◌/◌, ◌%◌, ◌≤◌, ◌<◌}
 use native.Mathlib.Omega.{arith}
 use native.Mathlib.Nat.{mod-add-mod}
+use native.Mathlib.Decide.{ℕ_discrete}
 use mathlib.Core.Path.{◌≡◌, refl, sym, ap, ◌∙◌}
-use mathlib.Core.Bool.{true, false, ◌||◌}
+use mathlib.Core.Bool.{Bool, true, false, not, ◌&&◌}
 use mathlib.Core.List.{List}
-use borrow.Author.Tests.{eq-eqb, ne_eqb, eqb-true, eqb-false}
+use Rattle.std.proofs.lemmas.Bool.{not-true}
+use borrow.Author.Tests.{eq-eqb, ne_eqb, eqb-false}
 use lib.Dec.{eqb}
 use lib.ListN.{length}
 use Rattle.image.specs.Bytes.{word}
 use Rattle.image.specs.Tables.{table_of, next}
 use Rattle.image.specs.Image.{head_size}
 use Rattle.image.specs.Head.{table_at, bucket_number}
-use Rattle.image.proofs.Bools.{or_false_first, or_false_second, or_true_first}
+use Rattle.image.proofs.Bools.{false_not_true, and_first, and_second}
 use Rattle.reader.specs.Lookup.{Probe, pass, ends, probe_entry, probe_bucket, decide, unsearched, lookup_hash}
 use Rattle.reader.specs.Steps.Resume.{search_rest, bucket_after, search_from}
 use Rattle.reader.proofs.Searches.{probe_bucket_by, rest_step, from_over, from_read, from_start}
-use Rattle.batch.specs.Steps.Probing.{SearchOpen, SearchDecided, Passes, NextProbed}
-
--- ---- whether a bucket is passed
-
-module _ (hash h offset : ℕ) where
-  pub not_passed : (eqb hash h || eqb offset 0) ≡ true → Passes hash h offset 0
-  not_passed t =
-      record {
-        small = omega arith;
-        other = λ e. absurd (omega arith);
-        taken = λ e. absurd (omega arith);
-        stops = λ e some. eqb-true hash h (or_true_first (eqb hash h) (eqb offset 0) t (ne_eqb offset 0 (λ z. omega arith)));
-      }
-
-  pub is_passed : (eqb hash h || eqb offset 0) ≡ false → Passes hash h offset 1
-  is_passed t =
-      let some : offset ≡ 0 → ⊥ = eqb-false offset 0 (or_false_second (eqb hash h) (eqb offset 0) t) in
-      record {
-        small = omega arith;
-        other = λ e. eqb-false hash h (or_false_first (eqb hash h) (eqb offset 0) t);
-        taken = λ e. omega arith;
-        stops = λ e. absurd (omega arith);
-      }
+use Rattle.batch.specs.Steps.Probing.{SearchOpen, SearchDecided, passes, NextProbed}
 
 -- ---- where a search stands
 
@@ -123,10 +103,20 @@ module _ {image : List ℕ} {h c at n k hash offset : ℕ} (b : BucketRead image
             (eq-eqb (word image place) h (sym hash_here ∙ same some)));
       }
 
-  pub probed : {on : ℕ} → Passes hash h offset on → NextProbed image h (c + 1) offset on
-  probed p =
+  pub probed : {stays : Bool} → stays ≡ passes hash h offset → NextProbed image h (c + 1) offset stays
+  probed {stays} p =
       record {
-        small = p.small;
-        is_open = λ e. passed_on (p.other e) (p.taken e);
-        decided = λ z. decided_here (p.stops z);
+        is_open = λ e.
+            let both : (not (eqb hash h) && not (eqb offset 0)) ≡ true = sym p ∙ e in
+            let some : offset ≡ 0 → ⊥ = eqb-false offset 0 (not-true (eqb offset 0) (and_second (not (eqb hash h)) (not (eqb offset 0)) both)) in
+            passed_on (eqb-false hash h (not-true (eqb hash h) (and_first (not (eqb hash h)) (not (eqb offset 0)) both))) (omega arith);
+        decided = λ e. decided_here (λ some. same_hash some (sym p ∙ e));
       }
+    where
+      same_hash : 0 < offset → (not (eqb hash h) && not (eqb offset 0)) ≡ false → hash ≡ h
+      same_hash some ends_it =
+          elim (ℕ_discrete hash h) [
+            | yes e ↦ e
+            | no n ↦
+                absurd (false_not_true (sym ends_it ∙ (λ i. not (ne_eqb hash h n i) && not (ne_eqb offset 0 (λ z. omega arith) i))))
+          ]

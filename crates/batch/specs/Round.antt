@@ -5,8 +5,6 @@ use Rattle.image.specs.Bytes.{cat}
 use Rattle.reader.specs.Lookup.{Lookup, found, nothing, lookup}
 use Rattle.reader.specs.Cases.{reads}
 use Rattle.batch.specs.RoundNames.{most_names, names, invalid_ends, different}
-use Rattle.batch.specs.declared.Rounded.{Rounded}
-use Rattle.batch.specs.declared.Rounded.TheVariants.{Buckets, Refused}
 use Rattle.jhash.specs.Refusals as refused
 
 -- "The answers are those of single lookups in the same order": an answer in its place, four words. 1, the id, the
@@ -43,8 +41,3 @@ left_by image xs answers (refusal k) = answers
 unfoldable pub after_round : List ℕ → List ℕ → List ℕ → List ℕ → List ℕ
 after_round image bytes ends answers =
     left_by image (names bytes ends) answers (round_outcome image bytes ends (length answers / 4))
-
--- the number and the value of each case of the answer
-abbrev pub rounded_of : Rounded → Outcome ℕ
-rounded_of (Buckets n) = value n
-rounded_of (Refused k) = refusal k

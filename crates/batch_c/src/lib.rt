@@ -8,7 +8,7 @@ ghost use Rattle.batch.specs.Round.{round_outcome, after_round};
 ghost use Rattle.batch.specs.NameRound.{name_refusal, after_names};
 ghost use Rattle.batch_c.specs.RoundAnswers.{round_answer};
 
-use batch::Rounded;
+use jhash::refusals::refusal_number;
 
 // The refusal's number, 0 when accepted; the buckets read over the different names, 0 when refused.
 #[repr(C)]
@@ -31,14 +31,13 @@ pub extern "C" fn cqdb_round_words(
     ensures leaves { answers.new
         ≡ after_round image.now names.now ends.now answers.old }
 {
-    let rounded = batch::round(image, names, ends, &mut *answers);
-    match rounded {
-        Rounded::Buckets(n) => RoundAnswer {
+    match batch::round(image, names, ends, answers) {
+        Ok(buckets) => RoundAnswer {
             refusal: 0,
-            buckets: n,
+            buckets,
         },
-        Rounded::Refused(k) => RoundAnswer {
-            refusal: k,
+        Err(refusal) => RoundAnswer {
+            refusal: u32::from(refusal),
             buckets: 0,
         },
     }
@@ -50,5 +49,5 @@ pub extern "C" fn cqdb_name_round_words(image: &[u8], ids: &[u32], answers: &mut
     ensures answer { result ≡ name_refusal ids.now (length answers.old / 4) }
     ensures leaves { answers.new ≡ after_names image.now ids.now answers.old }
 {
-    batch::name_round(image, ids, &mut *answers)
+    refusal_number(batch::name_round(image, ids, answers))
 }

@@ -11,7 +11,6 @@ use lib.Seq.{ext_get_or, get_or-take, get_or-drop, length-take-le, take-take, ta
 use Rattle.image.specs.declared.Mode.{Mode}
 use Rattle.image.specs.Bytes.{same}
 use Rattle.image.specs.Image.{Entry, head_size, image_size, image}
-use Rattle.image.specs.Steps.Contracts.{Cleared}
 use Rattle.image.proofs.AllOfList.{All}
 use Rattle.image.proofs.Sizes.{length_image}
 use Rattle.image.specs.Zero.{has_zero}
@@ -33,8 +32,6 @@ use Rattle.lists.proofs.ListCloses.{close_accepted, close_closed, closed_buffer}
 use Rattle.lists.proofs.CallLists.{list_accepted, list_written}
 use Rattle.lists.proofs.Theorem.{calls_answered}
 use Rattle.build.specs.declared.Made.{Made}
-use Rattle.build.specs.declared.Built.{Built}
-use Rattle.build.specs.declared.Built.TheVariants.{Image}
 use Rattle.build.specs.Build.{listed, build_refusal, made_of}
 use Rattle.build.specs.Steps.Capacity.{RoomForAll}
 use Rattle.build.specs.Steps.Steps.{ListPre, ListBuilt, KeptBehind, Finished}
@@ -47,17 +44,10 @@ use Rattle.build.proofs.AllPut.{number_all, word_ids, accepted_all, answers_none
 -- ---- lists of words and of names
 
 -- the refusals: cleared, with what is behind them as it was
-pub refusals_cleared : (n : ℕ) (then before places : List ℕ) → length then ≡ length before → n ≤ length before
-    → Cleared n before then → drop n before ≡ drop n places → then ≡ replicate n 0 ++ drop n places
-refusals_cleared n then before places long inside cleared rest =
-    let front = length-take-le n then (omega arith) in
-    sym (take-append-drop n then)
-    ∙ ap₂ {C = List ℕ} (λ (a b : List ℕ). a ++ b)
-    (ext_get_or 0 (take n then) (replicate n 0) (front ∙ sym (length-replicate {A = ℕ} n 0))
-    (λ i h. get_or-take n then i 0 (omega (arith, front)) ∙ cleared.zero i (omega (arith, front)) ∙ sym (get_or-replicate n i 0 0 (omega (arith, front)))))
-    (ext_get_or 0 (drop n then) (drop n before) (length-drop n then ∙ ap (λ (k : ℕ). k - n) long ∙ sym (length-drop n before))
-    (λ i h. get_or-drop n then i 0 ∙ cleared.kept (n + i) (omega arith) ∙ sym (get_or-drop n before i 0))
-    ∙ rest)
+pub refusals_cleared : (n : ℕ) (before places : List ℕ) {xs : List ℕ} → n ≤ length before → xs ≡ replicate (length (take n before)) 0
+    → drop n before ≡ drop n places → xs ++ drop n before ≡ replicate n 0 ++ drop n places
+refusals_cleared n before places inside zeros rest =
+    ap₂ {C = List ℕ} (λ (a b : List ℕ). a ++ b) (zeros ∙ ap (λ (k : ℕ). replicate k 0) (length-take-le n before inside)) rest
 
 -- names of bytes without a zero byte
 zero_free_take : (n : ℕ) (l : List ℕ) → has_zero l ≡ false → has_zero (take n l) ≡ false
@@ -102,16 +92,18 @@ begun_fresh mode repeats buffer counts w z e =
     ap₂ (λ (x : CQDBWriter) (c : List ℕ). state_with x c buffer) e z ∙ sym (ap (λ (x : CQDBWriter). fresh x.mode x.repeats buffer) e)
 
 -- words that are all cleared
-pub all_zero : (l : List ℕ) (n : ℕ) → length l ≡ n → ((i : ℕ) → i < n → get_or l i 0 ≡ 0) → (i : ℕ) → get_or l i 0 ≡ 0
-all_zero l n e zeros i =
+pub all_zero : (n : ℕ) {l : List ℕ} → l ≡ replicate n 0 → (i : ℕ) → get_or l i 0 ≡ 0
+all_zero n zeros i =
     elim (dec_lt i n) [
-      | yes p ↦ zeros i p
-      | no p ↦ get_or-eq_default l 0 {n = i} (omega arith)
+      | yes p ↦ ap (λ (l : List ℕ). get_or l i 0) zeros ∙ get_or-replicate n i 0 0 p
+      | no p ↦ let past : length (replicate n 0) ≤ i = omega (arith, length-replicate {A = ℕ} n 0) in
+          ap (λ (l : List ℕ). get_or l i 0) zeros ∙ get_or-eq_default (replicate n 0) 0 {n = i} past
     ]
 
 -- ---- the list
 
-module _ (mode : Mode) (repeats : Repeats) {buffer bytes ends ids refusals : List ℕ} (pre : ListPre buffer bytes ends ids refusals)
+module _ (mode : Mode) (repeats : Repeats) (bytes : List ℕ) {buffer ends ids refusals : List ℕ} (pre : ListPre buffer ends ids refusals)
+    (good : invalid_ends (length bytes) 0 ends ≡ false)
     (words : (i : ℕ) → i < length ends → get_or ids i 0 < 2 ^ 32) where
   abbrev cs : List Call
   cs = listed bytes ends ids
@@ -132,7 +124,7 @@ module _ (mode : Mode) (repeats : Repeats) {buffer bytes ends ids refusals : Lis
   list_closes is = ap close_refusal is ∙ close_accepted mode repeats n (accepted mode repeats n cs) L left_written
 
   ok : build_refusal bytes ends (length ids) (length refusals) (length buffer) ≡ 0
-  ok = refusal_none bytes ends (length ids) (length refusals) (length buffer) pre.packed pre.ids_long pre.refusals_long pre.head_fits
+  ok = refusal_none bytes ends (length ids) (length refusals) (length buffer) good pre.ids_long pre.refusals_long pre.head_fits
 
   -- the bytes behind an image of all names
   pub closed_behind : KeptBehind mode bytes ends ids buffer (after_close (after_list mode repeats buffer (listed bytes ends ids))).buffer
@@ -150,7 +142,7 @@ module _ (mode : Mode) (repeats : Repeats) {buffer bytes ends ids refusals : Lis
   -- one by one
   pub list_built : {s : State} → s ≡ after_list mode repeats buffer (listed bytes ends ids) → {m : Made} {bufferThen refusalsThen : List ℕ}
       → Finished s m bufferThen → refusalsThen ≡ answers_of mode repeats buffer (listed bytes ends ids) ++ drop (length ends) refusals
-      → ListBuilt mode repeats buffer bytes ends ids refusals (Image m) bufferThen refusalsThen
+      → ListBuilt mode repeats buffer bytes ends ids refusals m bufferThen refusalsThen
   unfolding image_of
   list_built {s} is {m} {bufferThen} {refusalsThen} done told =
       let leaves = done.leaves ∙ ap (λ (t : State). (after_close t).buffer) is in
@@ -165,11 +157,11 @@ module _ (mode : Mode) (repeats : Repeats) {buffer bytes ends ids refusals : Lis
 
   -- after a trial that left what is behind an image of all names, and behind the answers
   pub built_after : {buffer' refusals' : List ℕ} → length buffer' ≡ length buffer → KeptBehind mode bytes ends ids buffer buffer'
-      → length refusals' ≡ length refusals → drop (length ends) refusals' ≡ drop (length ends) refusals → {built : Built} {bufferThen refusalsThen : List ℕ}
-      → ListBuilt mode repeats buffer' bytes ends ids refusals' built bufferThen refusalsThen
-      → ListBuilt mode repeats buffer bytes ends ids refusals built bufferThen refusalsThen
+      → length refusals' ≡ length refusals → drop (length ends) refusals' ≡ drop (length ends) refusals → {made : Made} {bufferThen refusalsThen : List ℕ}
+      → ListBuilt mode repeats buffer' bytes ends ids refusals' made bufferThen refusalsThen
+      → ListBuilt mode repeats buffer bytes ends ids refusals made bufferThen refusalsThen
   unfolding made_of
-  built_after {buffer'} {refusals'} size kept long tail {built} {bufferThen} {refusalsThen} done =
+  built_after {buffer'} {refusals'} size kept long tail {made = _} {bufferThen} {refusalsThen} done =
       let room' : head_size ≤ length buffer' = omega (arith, size, pre.head_fits) in
       let ok' : build_refusal bytes ends (length ids) (length refusals') (length buffer') ≡ 0 =
       ap₂ (λ (p b : ℕ). build_refusal bytes ends (length ids) p b) long size ∙ ok in
@@ -197,7 +189,8 @@ module _ (mode : Mode) (repeats : Repeats) {buffer bytes ends ids refusals : Lis
 
 -- ---- the direct path: no put is refused
 
-module _ (mode : Mode) (repeats : Repeats) {buffer bytes ends ids refusals : List ℕ} (pre : ListPre buffer bytes ends ids refusals)
+module _ (mode : Mode) (repeats : Repeats) (bytes : List ℕ) {buffer ends ids refusals : List ℕ} (pre : ListPre buffer ends ids refusals)
+    (good : invalid_ends (length bytes) 0 ends ≡ false)
     (fits : RoomForAll mode ends ids (length buffer)) (words : (i : ℕ) → i < length ends → get_or ids i 0 < 2 ^ 32) (clean : NoZeros bytes ends) where
   abbrev es : List Entry
   es = list_entries bytes ends ids
@@ -205,7 +198,7 @@ module _ (mode : Mode) (repeats : Repeats) {buffer bytes ends ids refusals : Lis
   distinct_names : Distinct (list_entries bytes ends ids) → (i j : ℕ) → j < i → i < length ends
       → same (nth (names bytes ends) j) (nth (names bytes ends) i) ≡ false
   distinct_names two i j h k =
-      let number = number_all bytes ends ids pre.packed pre.ids_long in
+      let number = number_all bytes ends ids good pre.ids_long in
       let many : length (names bytes ends) ≤ length ids = omega (arith, length_names bytes ends, pre.ids_long) in
       let none = entry_of [] 0 in
       let its : (m : ℕ) → m < length ends → (get_or es m none).name ≡ nth (names bytes ends) m = λ m b.
@@ -217,9 +210,8 @@ module _ (mode : Mode) (repeats : Repeats) {buffer bytes ends ids refusals : Lis
       → size ≡ image_size mode (list_entries bytes ends ids)
       → bufferThen ≡ image mode (list_entries bytes ends ids) ++ drop (image_size mode (list_entries bytes ends ids)) buffer
       → KeptBehind mode bytes ends ids buffer bufferThen → refusalsThen ≡ replicate (length ends) 0 ++ drop (length ends) refusals
-      → ListBuilt mode repeats buffer bytes ends ids refusals (Image (record { size = size; accepted = length ends })) bufferThen refusalsThen
+      → ListBuilt mode repeats buffer bytes ends ids refusals (record { size = size; accepted = length ends }) bufferThen refusalsThen
   all_built apart {size} sized leaves behind cleared =
-      let good = pre.packed in
       let many = pre.ids_long in
       let room = pre.head_fits in
       let cs = listed bytes ends ids in

@@ -2,7 +2,7 @@
 use Prim.Native.Nat.{ℕ, suc, ◌+◌, ◌*◌, ◌-◌, ◌^◌, ◌≤◌, ◌<◌}
 use native.Mathlib.Omega.{arith}
 use mathlib.Core.Path.{◌≡◌, refl, sym, ap, ap₂, subst, ◌∙◌}
-use mathlib.Core.Bool.{Bool, false}
+use mathlib.Core.Bool.{Bool, true, false, ◌&&◌}
 use mathlib.Core.List.{List, [], ◌∷◌, ◌++◌, append-nil}
 use lib.ListN.{length, get_or, take, drop, replicate, length-append, length-drop}
 use lib.Seq.{sets, take_all, take-append_seam, drop_at}
@@ -20,7 +20,7 @@ use Rattle.image.specs.PackedNames.{names, nth, invalid_ends, begin_of}
 use Rattle.image.proofs.NameEnds.{length_names, nth_name, placed, begin_later, begin_next, begins_rise}
 use Rattle.serialize.specs.Steps.Partition.{table_offsets_from, EntryPartitioned}
 use Rattle.serialize.specs.Steps.Written.{begun_image}
-use Rattle.serialize.specs.Steps.Meeting.{AllDone}
+use Rattle.serialize.specs.Steps.Meeting.{AllDone, Distinct}
 use Rattle.serialize.proofs.Cleared.{Numbers, size_is, begun_is}
 use Rattle.serialize.proofs.PartialImage.{up_to_entries, length_up_to_entries}
 use Rattle.serialize.proofs.TablesFilled.{filling, filled_to, tables_long}
@@ -29,7 +29,7 @@ use Rattle.writer.specs.Put.{entry_of}
 use Rattle.lists.specs.Calls.{puts}
 use Rattle.build.specs.Build.{calls_of}
 use Rattle.build.specs.Needs.{ids_back}
-use Rattle.build.specs.Steps.Steps.{entries_listed}
+use Rattle.build.specs.Steps.Steps.{entries_listed, KeptBehind}
 use Rattle.build.specs.Steps.Stores.{list_entries, WriteListPre, ListWritten}
 use Rattle.build.proofs.AllPut.{number_all, end_all, back_is, size_within, size_small}
 use Rattle.build.proofs.StoredAll.{next_entry, split_there, StoringTo, storing_first, storing_last, storing_step}
@@ -75,6 +75,26 @@ pub record Begun (mode : Mode) (es : List Entry) (b0 E X tail : List ℕ) : Type
   pub area : length X ≡ 16 * length (placed_in es)
   pub is : b0 ≡ head_words mode es ++ table_rows (entries_end es) (placed_in es) ++ E ++ X ++ back_words [] (back_size_of mode es) ++ tail
 
+-- the tables are filled in an image of `size` bytes
+pub record TablesDone (stop : Bool) (mode : Mode) (buffer bytes ends ids : List ℕ) (size : ℕ) (met : Bool) (bufferThen : List ℕ) : Type 0 where
+  pub sized : size ≡ image_size mode (list_entries bytes ends ids)
+  pub leaves : (stop && met) ≡ false
+      → bufferThen ≡ image mode (list_entries bytes ends ids) ++ drop (image_size mode (list_entries bytes ends ids)) buffer
+  pub behind : KeptBehind mode bytes ends ids buffer bufferThen
+  pub distinct : met ≡ false → Distinct (list_entries bytes ends ids)
+
+-- the search for equal names did not end early
+pub written : {stop : Bool} {mode : Mode} {buffer bytes ends ids : List ℕ} {size : ℕ} {met : Bool} {bufferThen : List ℕ}
+    → TablesDone stop mode buffer bytes ends ids size met bufferThen → (stop && met) ≡ false
+    → ListWritten stop mode buffer bytes ends ids bufferThen size
+written {met = met} t on =
+    record {
+      sized = t.sized;
+      leaves = t.leaves on;
+      behind = t.behind;
+      distinct = λ off. t.distinct (sym (ap (λ (b : Bool). b && met) off) ∙ on);
+    }
+
 -- before the turn of the i-th name, whose entry goes to `at`; b0 is the image as it was begun
 pub record Turn (mode : Mode) (b0 bytes ends ids buf places : List ℕ) (at i : ℕ) : Type 0 where
   pub inside : i ≤ length ends
@@ -84,6 +104,7 @@ pub record Turn (mode : Mode) (b0 bytes ends ids buf places : List ℕ) (at i : 
       → StoringTo mode (list_entries bytes ends ids) E X tail (take i (list_entries bytes ends ids)) buf places at
 
 module _ {mode : Mode} {counts hashes buffer bytes ends ids : List ℕ} (pre : WriteListPre mode counts hashes buffer bytes ends ids)
+    (good : invalid_ends (length bytes) 0 ends ≡ false)
     (words : (i : ℕ) → i < length ends → get_or ids i 0 < 2 ^ 32) where
   abbrev es : List Entry
   es = list_entries bytes ends ids
@@ -98,21 +119,21 @@ module _ {mode : Mode} {counts hashes buffer bytes ends ids : List ℕ} (pre : W
   tail = drop (image_size mode es) buffer
 
   pub small : image_size mode (list_entries bytes ends ids) ≤ 4294967295
-  small = size_small mode bytes ends ids pre.list.packed pre.list.ids_long pre.capacity.fits
+  small = size_small mode bytes ends ids good pre.list.ids_long pre.capacity.fits
 
   pub within : image_size mode (list_entries bytes ends ids) ≤ length buffer
-  within = size_within mode bytes ends ids pre.list.packed pre.list.ids_long pre.capacity.fits
+  within = size_within mode bytes ends ids good pre.list.ids_long pre.capacity.fits
 
   pub as_many : length ends ≡ length (list_entries bytes ends ids)
-  as_many = sym (number_all bytes ends ids pre.list.packed pre.list.ids_long)
+  as_many = sym (number_all bytes ends ids good pre.list.ids_long)
 
   pub end_is : head_size + 9 * length ends + get_or ends (length ends - 1) 0 ≡ entries_end (list_entries bytes ends ids)
   end_is =
       omega
-      (arith, end_all bytes ends ids pre.list.packed pre.list.ids_long, begin_later ends (length ends) (λ z. omega (arith, z, pre.capacity.some)))
+      (arith, end_all bytes ends ids good pre.list.ids_long, begin_later ends (length ends) (λ z. omega (arith, z, pre.capacity.some)))
 
   pub back_of_all : back_in mode (ids_back (take (length ends) ids)) ≡ back_size_of mode (list_entries bytes ends ids)
-  back_of_all = sym (back_is mode bytes ends ids pre.list.packed pre.list.ids_long)
+  back_of_all = sym (back_is mode bytes ends ids good pre.list.ids_long)
 
   ids_all : All (λ (e : Entry). e.id < 2 ^ 32) es
   ids_all = ids_listed (names bytes ends) ids (λ i h. words i (omega (arith, length_names bytes ends)))
@@ -200,7 +221,7 @@ module _ {mode : Mode} {counts hashes buffer bytes ends ids : List ℕ} (pre : W
         → entries ≡ length (list_entries bytes ends ids) → back ≡ back_size_of mode (list_entries bytes ends ids)
         → n ≡ image_size mode (list_entries bytes ends ids) → b0 ≡ begun_image mode end entries back counts buffer
         → AllDone stop mode l end entries n counts (take n buf) after met → length after ≡ n
-        → ListWritten stop mode buffer bytes ends ids n met (after ++ drop n buf)
+        → TablesDone stop mode buffer bytes ends ids n met (after ++ drop n buf)
     turn_last last {n = n} {after} el ee en eb size e0 done long =
         let all = take_all i es (omega (arith, as_many)) in
         let is = storing_last mode es E X tail room area

@@ -11,8 +11,6 @@ use Rattle.writer.specs.Close.{closed_size}
 use Rattle.lists.specs.Calls.{Call, put, puts}
 use Rattle.lists.specs.Demand3.{answers_of, after_list, accepted_puts, image_of}
 use Rattle.build.specs.declared.Made.{Made}
-use Rattle.build.specs.declared.Built.{Built}
-use Rattle.build.specs.declared.Built.TheVariants.{Image, Refused}
 use Rattle.jhash.specs.Refusals as refused
 
 -- the puts in order: each name with the id at its place
@@ -65,8 +63,3 @@ unfoldable pub answers_after : Mode → Repeats → List ℕ → List ℕ → Li
 answers_after mode repeats buffer bytes ends ids places =
     cond (ltb 0 (build_refusal bytes ends (length ids) (length places) (length buffer))) places
     (answers_of mode repeats buffer (listed bytes ends ids) ++ drop (length ends) places)
-
--- the number and the values of each case of the answer
-abbrev pub built_of : Built → Outcome Made
-built_of (Image m) = value m
-built_of (Refused k) = refusal k

@@ -5,18 +5,16 @@ ghost use Rattle.jhash.specs.NameHash.{hash_or_zero};
 ghost use Rattle.image.specs.Zero.{has_zero};
 ghost use Rattle.build.specs.Steps.Stores.{HashListPre, HashListPost};
 
-use image::packed::nth_name;
-use jhash::Hashed;
+use image::packed::PackedNames;
 
-// Is one of the bytes zero? The loop reads each of them and ends at none, so the compiler looks at sixteen at once.
+// Is one of the bytes zero? The loop reads each of them and ends at none, so the compiler looks at sixteen at once;
+// `contains` ends at the first.
 pub(crate) fn any_zero(bytes: &[u8]) -> bool
     ensures { result ≡ has_zero bytes.now }
 {
     let mut any = false;
-    let mut i = 0;
-    while i < bytes.len() {
-        any = any | (bytes[i] == 0);
-        i += 1;
+    for b in bytes {
+        any = any | (*b == 0);
     }
     any
 }
@@ -26,23 +24,18 @@ pub(crate) fn any_zero(bytes: &[u8]) -> bool
 fn hash_name(name: &[u8]) -> u32
     ensures { result ≡ hash_or_zero name.now }
 {
-    match jhash::jhash(name, 0) {
-        Hashed::Hash(h) => h,
-        Hashed::Refused => 0,
-    }
+    jhash::jhash(name, 0).unwrap_or(0)
 }
 
 // The hashes of all names, in the list's order, and the counts of the tables that they fall into.
-pub(crate) fn hash_list(bytes: &[u8], ends: &[u64], hashes: &mut [u32], counts: &mut [u32; 256])
-    requires { HashListPre bytes.now ends.now hashes.old counts.old }
-    ensures { HashListPost bytes.now ends.now hashes.old hashes.new
+pub(crate) fn hash_list(names: PackedNames, hashes: &mut [u32], counts: &mut [u32; 256])
+    requires { HashListPre names.bytes.now names.ends.now hashes.old counts.old }
+    ensures { HashListPost names.entry.bytes.now names.entry.ends.now hashes.old hashes.new
         counts.new }
 {
-    let mut i = 0;
-    while i < ends.len() {
-        let h = hash_name(nth_name(bytes, ends, i));
+    for i in 0..names.ends.len() {
+        let h = hash_name(names.name(i));
         hashes[i] = h;
         image::entries::raise(&mut *counts, h);
-        i += 1;
     }
 }

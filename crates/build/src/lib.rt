@@ -2,16 +2,16 @@
 #![tactic(auto)]
 
 ghost use Rattle.std.specs.Prelude.{◌≡◌, ◌<◌, length};
-ghost use Rattle.writer.specs.State.{state_with, refuses_repeats};
-ghost use Rattle.build.specs.Build.{build_refusal, building, BufferBuilt, answers_after, built_of};
+ghost use Rattle.jhash.specs.Outcome.{outcome_of};
+ghost use Rattle.writer.specs.State.{state_with};
+ghost use Rattle.build.specs.Build.{build_refusal, building, BufferBuilt, answers_after};
 ghost use Rattle.build.specs.Steps.Steps.{ListPre, ListBuilt, DirectPre, DirectTried, FinishPre, Finished};
 
 use capacity::has_capacity;
 use hashed::{any_zero, hash_list};
-use image::packed::invalid_ends;
-use image::scratch::clear_words;
+use image::packed::PackedNames;
 use image::{HEAD_SIZE, Mode};
-use jhash::refusals::{ANSWERS_TOO_FEW, ROUND_UNFIT, TOO_SHORT};
+use jhash::refusals::Refusal;
 use singly::{put_list, scratch_for_index};
 use stored::write_list;
 use writer::record::fresh_writer;
@@ -30,21 +30,13 @@ pub struct Made {
     pub accepted: u32,
 }
 
-// What the call answers: what was made, or the number of the refusal.
-#[derive(Clone, Copy)]
-pub enum Built {
-    Image(Made),
-    Refused(u32),
-}
-
 // The image written around the entries of a record that a close would accept: the puts know all that a close checks.
-fn finish_list(w: CQDBWriter, counts: &[u32; 256], buf: &mut [u8]) -> Made
-    requires { FinishPre (state_with w counts.now buf.old) }
-    ensures { Finished (state_with w counts.now buf.old) result buf.new }
+fn finish_list(w: &CQDBWriter, counts: &[u32; 256], buf: &mut [u8]) -> Made
+    requires { FinishPre (state_with w.now counts.now buf.old) }
+    ensures { Finished (state_with w.now counts.now buf.old) result buf.new }
 {
-    let size = writer::write_closed(w, counts, &mut *buf);
     Made {
-        size,
+        size: w.write_closed(counts, buf),
         accepted: w.entries,
     }
 }
@@ -55,84 +47,68 @@ fn build_singly(
     mode: Mode,
     repeats: Repeats,
     buf: &mut [u8],
-    bytes: &[u8],
-    ends: &[u64],
+    names: PackedNames,
     ids: &[u32],
     refusals: &mut [u32],
     scratch: &mut [u32],
-) -> Built
-    requires { ListPre buf.old bytes.now ends.now ids.now refusals.old }
-    ensures { ListBuilt mode repeats buf.old bytes.now ends.now ids.now
+) -> Made
+    requires { ListPre buf.old names.ends.now ids.now refusals.old }
+    ensures { ListBuilt mode repeats buf.old names.entry.bytes.now names.entry.ends.now ids.now
         refusals.old result buf.new refusals.new }
 {
-    let words = scratch_for_index(repeats, ends.len(), scratch.len());
+    let words = scratch_for_index(repeats, names.ends.len(), scratch.len());
     let slots = &mut scratch[..words];
-    clear_words(&mut *slots, words);
+    slots.fill(0);
     let mut counts = [0; 256];
-    let w = fresh_writer(mode, repeats, buf.len());
-    let after = put_list(
-        w,
+    let mut w = fresh_writer(mode, repeats, buf.len());
+    put_list(
+        &mut w,
         &mut counts,
         &mut *buf,
         &mut *slots,
-        bytes,
-        ends,
+        names,
         ids,
         &mut *refusals,
     );
-    Built::Image(finish_list(after, &counts, &mut *buf))
+    finish_list(&w, &counts, &mut *buf)
 }
 
-// Are repeats refused?
-fn refuses(repeats: Repeats) -> bool
-    ensures { result ≡ refuses_repeats repeats }
-{
-    match repeats {
-        Repeats::On => false,
-        Repeats::Off => true,
-    }
-}
-
-// Direct path: the names are hashed, and the image of all of them is written. Gives its size, or 0 if a name is refused
-// or may be: then what the image would take of the buffer is unspecified, and so are the refusals' places.
+// Direct path: the names are hashed, and the image of all of them is written. There is none if a name is refused or may
+// be: then what the image would take of the buffer is unspecified, and so are the refusals' places.
 fn build_direct(
     mode: Mode,
     repeats: Repeats,
     buf: &mut [u8],
-    bytes: &[u8],
-    ends: &[u64],
+    names: PackedNames,
     ids: &[u32],
     refusals: &mut [u32],
     scratch: &mut [u32],
-) -> u32
-    requires { DirectPre mode buf.old bytes.now ends.now ids.now refusals.old }
-    ensures { DirectTried mode repeats buf.old bytes.now ends.now ids.now
+) -> Option<Made>
+    requires { DirectPre mode buf.old names.ends.now ids.now refusals.old }
+    ensures { DirectTried mode repeats buf.old names.entry.bytes.now names.entry.ends.now ids.now
         refusals.old result buf.new refusals.new }
 {
-    let n = ends.len();
-    let last = ends[n - 1] as usize;
-    if any_zero(&bytes[..last]) {
-        return 0;
+    let n = names.ends.len();
+    let last = names.ends[n - 1] as usize;
+    if any_zero(&names.bytes[..last]) {
+        return None;
     }
     let mut counts = [0; 256];
-    hash_list(bytes, ends, &mut *refusals, &mut counts);
-    let stop = refuses(repeats);
-    let written = write_list(
+    hash_list(names, &mut *refusals, &mut counts);
+    let stop = repeats == Repeats::Off;
+    let size = write_list(
         mode,
         &counts,
         &*refusals,
         &mut *buf,
-        bytes,
-        ends,
+        names,
         ids,
         &mut *scratch,
         stop,
-    );
-    if stop & written.met {
-        return 0;
-    }
-    clear_words(&mut *refusals, n);
-    written.size
+    )?;
+    refusals[..n].fill(0);
+    let accepted = n as u32;
+    Some(Made { size, accepted })
 }
 
 // A list by the direct path if the buffer has room for all names; otherwise, or if a name is refused there, by the puts
@@ -141,48 +117,43 @@ fn build_list(
     mode: Mode,
     repeats: Repeats,
     buf: &mut [u8],
-    bytes: &[u8],
-    ends: &[u64],
+    names: PackedNames,
     ids: &[u32],
     refusals: &mut [u32],
     scratch: &mut [u32],
-) -> Built
-    requires { ListPre buf.old bytes.now ends.now ids.now refusals.old }
-    ensures { ListBuilt mode repeats buf.old bytes.now ends.now ids.now
+) -> Made
+    requires { ListPre buf.old names.ends.now ids.now refusals.old }
+    ensures { ListBuilt mode repeats buf.old names.entry.bytes.now names.entry.ends.now ids.now
         refusals.old result buf.new refusals.new }
 {
-    if !has_capacity(mode, ends, ids, buf.len()) {
+    if !has_capacity(mode, names.ends, ids, buf.len()) {
         return build_singly(
             mode,
             repeats,
             &mut *buf,
-            bytes,
-            ends,
+            names,
             ids,
             &mut *refusals,
             &mut *scratch,
         );
     }
-    let size = build_direct(
+    let direct = build_direct(
         mode,
         repeats,
         &mut *buf,
-        bytes,
-        ends,
+        names,
         ids,
         &mut *refusals,
         &mut *scratch,
     );
-    if 0 < size {
-        let accepted = ends.len() as u32;
-        return Built::Image(Made { size, accepted });
+    if let Some(made) = direct {
+        return made;
     }
     build_singly(
         mode,
         repeats,
         &mut *buf,
-        bytes,
-        ends,
+        names,
         ids,
         &mut *refusals,
         &mut *scratch,
@@ -202,8 +173,8 @@ pub fn build(
     ids: &[u32],
     refusals: &mut [u32],
     scratch: &mut [u32],
-) -> Built
-    ensures answer { built_of result ≡ building mode repeats buf.old bytes.now ends.now
+) -> Result<Made, Refusal>
+    ensures answer { outcome_of result ≡ building mode repeats buf.old bytes.now ends.now
         ids.now
         (length refusals.old) }
     ensures leaves { BufferBuilt mode repeats buf.old bytes.now ends.now ids.now
@@ -213,27 +184,26 @@ pub fn build(
     ensures untouched { 0 < build_refusal bytes.now ends.now (length ids.now)
         (length refusals.old) (length buf.old) → scratch.new ≡ scratch.old }
 {
+    let Some(names) = PackedNames::new(bytes, ends) else {
+        return Err(Refusal::RoundUnfit);
+    };
     let n = ends.len();
-    if invalid_ends(ends, bytes.len()) {
-        return Built::Refused(ROUND_UNFIT);
-    }
     if ids.len() < n {
-        return Built::Refused(ANSWERS_TOO_FEW);
+        return Err(Refusal::AnswersTooFew);
     }
     if refusals.len() < n {
-        return Built::Refused(ANSWERS_TOO_FEW);
+        return Err(Refusal::AnswersTooFew);
     }
     if buf.len() < HEAD_SIZE {
-        return Built::Refused(TOO_SHORT);
+        return Err(Refusal::TooShort);
     }
-    build_list(
+    Ok(build_list(
         mode,
         repeats,
         &mut *buf,
-        bytes,
-        ends,
+        names,
         ids,
         &mut *refusals,
         &mut *scratch,
-    )
+    ))
 }

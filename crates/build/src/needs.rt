@@ -1,10 +1,13 @@
 // What a list needs: the bytes of a buffer in which no put is refused for room, and the words of scratch memory for the
 // index of its names.
-ghost use Rattle.std.specs.Prelude.{◌≡◌, ◌+◌, ◌*◌, ◌<◌, min, max, length};
-ghost use Rattle.build.specs.Needs.{at_most, words_each, ids_back, bytes_needed, needed};
+ghost use Rattle.std.specs.Prelude.{◌≡◌, ◌+◌, ◌<◌, length};
+ghost use Rattle.build.specs.Needs.{ids_back, bytes_needed, needed};
 ghost use Rattle.build.specs.Steps.Capacity.{BackOf};
 
 use image::{HEAD_SIZE_64, Mode};
+
+// The bytes for each name beside the name itself: 9 in its entry and 16 in its table.
+const BYTES_EACH: u64 = 25;
 
 // The words of scratch memory for each name; `words_each` is the same number.
 const WORDS_EACH: u64 = 5;
@@ -16,53 +19,14 @@ pub struct Needs {
     pub words: u64,
 }
 
-// A sum, 2^64 - 1 where it is more.
-fn sum(a: u64, b: u64) -> u64
-    ensures { result ≡ at_most (a + b) }
-{
-    if 18446744073709551615 - a < b {
-        return 18446744073709551615;
-    }
-    a + b
-}
-
-// 25 bytes for each of n names, beside the name itself: 9 in its entry and 16 in its table; 2^64 - 1 where it is more.
-fn bytes_each(n: u64) -> u64
-    ensures { result ≡ at_most (25 * n) }
-{
-    if 18446744073709551615 / 25 < n {
-        return 18446744073709551615;
-    }
-    25 * n
-}
-
-// The words of scratch memory for n names, 2^64 - 1 where it is more.
-fn words_for(n: u64) -> u64
-    ensures { result ≡ at_most (words_each * n) }
-{
-    if 18446744073709551615 / WORDS_EACH < n {
-        return 18446744073709551615;
-    }
-    WORDS_EACH * n
-}
-
-// The larger of two ids.
-fn larger(a: u32, b: u32) -> u32
-    ensures { result ≡ max a b }
-{
-    if a < b { b } else { a }
-}
-
-// The largest of these ids.
+// The largest of these ids. A loop without a branch.
 fn largest(ids: &[u32]) -> u32
     requires { 0 < length ids.now }
     ensures { result + 1 ≡ ids_back ids.now }
 {
-    let mut top = 0;
-    let mut i = 0;
-    while i < ids.len() {
-        top = larger(top, ids[i]);
-        i += 1;
+    let mut top: u32 = 0;
+    for id in ids {
+        top = top.max(*id);
     }
     top
 }
@@ -71,7 +35,7 @@ fn largest(ids: &[u32]) -> u32
 pub(crate) fn back_of(ids: &[u32]) -> u64
     ensures { BackOf ids.now result }
 {
-    if ids.len() == 0 {
+    if ids.is_empty() {
         return 0;
     }
     largest(ids) as u64 + 1
@@ -82,8 +46,9 @@ fn bytes_for(mode: Mode, size: u64, ids: &[u32]) -> u64
     ensures { result ≡ bytes_needed mode size ids.now }
 {
     let back = serialize::size::back_in(mode, back_of(ids));
-    let entries = bytes_each(ids.len() as u64);
-    sum(sum(HEAD_SIZE_64 + 4 * back, entries), size)
+    let entries = BYTES_EACH.saturating_mul(ids.len() as u64);
+    let front = (HEAD_SIZE_64 + 4 * back).saturating_add(entries);
+    front.saturating_add(size)
 }
 
 // What a list of names, which have `size` bytes together, with these ids needs.
@@ -92,6 +57,6 @@ pub fn for_list(mode: Mode, size: u64, ids: &[u32]) -> Needs
 {
     Needs {
         bytes: bytes_for(mode, size, ids),
-        words: words_for(ids.len() as u64),
+        words: WORDS_EACH.saturating_mul(ids.len() as u64),
     }
 }

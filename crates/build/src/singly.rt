@@ -1,12 +1,14 @@
 // The puts of a list, one by one: by an index in the scratch memory, in constant time, or without memory by the rule's
 // own put, which walks all earlier entries where repeats are off.
+ghost use Rattle.jhash.specs.Outcome.{refusal_of};
 ghost use Rattle.writer.specs.State.{state_with};
 ghost use Rattle.writer.specs.Put.{entry_of};
 ghost use Rattle.build.specs.Steps.Steps.{ScratchForIndex, PutPre, PutPost, PutListPre, PutListPost};
 
-use image::packed::nth_name;
+use image::packed::PackedNames;
 use index::put_indexed;
-use writer::{CQDBWriter, RecordAnswer, Repeats};
+use jhash::refusals::{Refusal, refusal_number};
+use writer::{CQDBWriter, Repeats};
 
 // How many words of the scratch memory are the index of n names: 5 a name, or what there is; a slot has two. 0 where
 // there is less than a slot a name, and with repeats on, where no put looks for its name.
@@ -29,47 +31,41 @@ pub(crate) fn scratch_for_index(repeats: Repeats, n: usize, words: usize) -> usi
 
 // A put by the index, or without slots by the rule.
 fn put_name(
-    w: CQDBWriter,
+    w: &mut CQDBWriter,
     counts: &mut [u32; 256],
     buf: &mut [u8],
     slots: &mut [u32],
     name: &[u8],
     id: u32,
-) -> RecordAnswer
-    requires { PutPre (state_with w counts.old buf.old) slots.old }
-    ensures { PutPost (state_with w counts.old buf.old) slots.old
-        (entry_of name.now id) result.refusal
-        (state_with result.writer counts.new buf.new) slots.new }
+) -> Result<(), Refusal>
+    requires { PutPre (state_with w.old counts.old buf.old) slots.old }
+    ensures { PutPost (state_with w.old counts.old buf.old) slots.old
+        (entry_of name.now id) (refusal_of result)
+        (state_with w.new counts.new buf.new) slots.new }
 {
-    if slots.len() == 0 {
-        return writer::put(w, &mut *counts, &mut *buf, name, id);
+    if slots.is_empty() {
+        return w.put(counts, buf, name, id);
     }
-    put_indexed(w, &mut *counts, &mut *buf, &mut *slots, name, id)
+    put_indexed(w, counts, buf, slots, name, id)
 }
 
 // The puts of all names in their order, with the number of each put's refusal.
 pub(crate) fn put_list(
-    w: CQDBWriter,
+    w: &mut CQDBWriter,
     counts: &mut [u32; 256],
     buf: &mut [u8],
     slots: &mut [u32],
-    bytes: &[u8],
-    ends: &[u64],
+    names: PackedNames,
     ids: &[u32],
     refusals: &mut [u32],
-) -> CQDBWriter
-    requires { PutListPre w counts.old buf.old slots.old bytes.now ends.now ids.now refusals.old }
-    ensures { PutListPost w buf.old bytes.now ends.now ids.now
-        refusals.old (state_with result counts.new buf.new) refusals.new }
+)
+    requires { PutListPre w.old counts.old buf.old slots.old names.ends.now ids.now refusals.old }
+    ensures { PutListPost w.old buf.old names.entry.bytes.now names.entry.ends.now ids.now
+        refusals.old (state_with w.new counts.new buf.new) refusals.new }
 {
-    let mut after = w;
-    let mut i = 0;
-    while i < ends.len() {
-        let name = nth_name(bytes, ends, i);
-        let answer = put_name(after, &mut *counts, &mut *buf, &mut *slots, name, ids[i]);
-        after = answer.writer;
-        refusals[i] = answer.refusal;
-        i += 1;
+    for i in 0..names.ends.len() {
+        let name = names.name(i);
+        let done = put_name(&mut *w, &mut *counts, &mut *buf, &mut *slots, name, ids[i]);
+        refusals[i] = refusal_number(done);
     }
-    after
 }

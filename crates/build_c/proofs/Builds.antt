@@ -5,22 +5,38 @@ use Rattle.image.proofs.Bools.{false_not_true}
 use mathlib.Core.Bool.{Bool, true, false, cond}
 use mathlib.Core.List.{List}
 use lib.ListN.{length}
-use Rattle.jhash.specs.Outcome.{Outcome, refusal}
+use native.Mathlib.Omega.{arith}
+use Rattle.std.specs.Prelude.{Result, Ok, Err}
+use Rattle.jhash.specs.declared.refusals.Refusal.{Refusal}
+use Rattle.jhash.specs.declared.refusals.Refusal.TheVariants.{Unfit}
+use Rattle.jhash.specs.Refusals.{number_of}
+use Rattle.jhash.specs.Outcome.{Outcome, refusal, outcome_of, refusal_of}
 use Rattle.image.specs.declared.Mode.{Mode}
 use Rattle.writer.specs.declared.Repeats.{Repeats}
 use Rattle.build.specs.declared.Made.{Made}
 use Rattle.build.specs.Build.{build_refusal, building, BufferBuilt, answers_after}
+use Rattle.build.proofs.Whole.{refused_some}
 use Rattle.build_c.specs.declared.BuildAnswer.{BuildAnswer}
 use Rattle.writer.specs.Numbers.{valid_numbers, mode_of, repeats_of}
 use Rattle.build_c.specs.Building.{built_answer, build_answer, BufferLeft, answers_built}
 
--- what `build` promises, by the names of its clauses
-pub record Promise (mode : Mode) (repeats : Repeats) (buffer bytes ends ids refusals scratch : List ℕ) (out : Outcome Made)
-    (buffer' refusals' scratch' : List ℕ) : Type 0 where
-  pub answer : out ≡ building mode repeats buffer bytes ends ids (length refusals)
-  pub leaves : BufferBuilt mode repeats buffer bytes ends ids (length refusals) buffer'
-  pub answers : refusals' ≡ answers_after mode repeats buffer bytes ends ids refusals
-  pub untouched : 0 < build_refusal bytes ends (length ids) (length refusals) (length buffer) → scratch' ≡ scratch
+-- a number that is read as one of two: it stands for none
+pub read_unknown : {A : Type 0} (b : Bool) (x : A) {e : Refusal} → ◌≡◌ {A = Result A Refusal} (Err e) (cond b (Ok x) (Err Unfit))
+    → (b ≡ false) × (number_of e ≡ 2)
+read_unknown true x is = cc
+read_unknown false x {e} is = let same : e ≡ Unfit = cc in (refl, ap number_of same)
+
+-- or for this one
+pub read_known : {A : Type 0} (b : Bool) {x y : A} → ◌≡◌ {A = Result A Refusal} (Ok y) (cond b (Ok x) (Err Unfit)) → (b ≡ true) × (y ≡ x)
+read_known true {x} {y} is = let same : y ≡ x = cc in (refl, same)
+read_known false is = cc
+
+-- the number of a refusal is due
+pub refusal_due : (mode : Mode) (repeats : Repeats) (buffer bytes ends ids : List ℕ) (places : ℕ) (r : Result Made Refusal)
+    → outcome_of r ≡ building mode repeats buffer bytes ends ids places → 0 < refusal_of r
+    → 0 < build_refusal bytes ends (length ids) places (length buffer)
+refusal_due mode repeats buffer bytes ends ids places (Ok m) e some = absurd (omega arith)
+refusal_due mode repeats buffer bytes ends ids places (Err k) e some = refused_some mode repeats buffer bytes ends ids places (number_of k) (sym e)
 
 module _ (mode repeats : ℕ) (buffer bytes ends ids places : List ℕ) where
   abbrev answer : BuildAnswer

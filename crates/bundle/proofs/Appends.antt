@@ -8,7 +8,10 @@ use borrow.Author.Tests.{lt-ltb, le-ltb, ltb-false, eq-eqb, ne_eqb, eqb-true, no
 use lib.Dec.{eqb, ltb}
 use lib.ListN.{length, take, drop, length-append}
 use lib.Seq.{sets, sets-eq, length-take-le, take_at}
-use Rattle.jhash.specs.Outcome.{Outcome, value, refusal}
+use Rattle.std.specs.Prelude.{Result, Ok, Err}
+use Rattle.std.specs.Result.{is_err}
+use Rattle.jhash.specs.Outcome.{Outcome, value, refusal, outcome_of}
+use Rattle.jhash.specs.declared.refusals.Refusal.{Refusal}
 use Rattle.jhash.proofs.ValueOrRefusal.{no_value, same_value}
 use Rattle.image.proofs.Bools.{false_not_true, or_false_first, or_false_second, chose_first, chose_second}
 use Rattle.bundle.specs.FileWalk.{counting}
@@ -101,6 +104,11 @@ module _ (buf : List ℕ) (n : ℕ) (image : List ℕ) where
       let front : length (take n buf ++ image) ≡ n + length image =
       length-append (take n buf) image ∙ ap (λ (k : ℕ). k + length image) (length-take-le n buf (passed e).inside) in
       ap (take (n + length image)) (writes e) ∙ take_at (take n buf ++ image) (drop (n + length image) buf) (n + length image) front
+
+-- whether the walk is refused, by what the code tests
+pub walked : (r : Result ℕ Refusal) (b : Bool) → is_err r ≡ b → is_value (outcome_of r) ≡ not b
+walked (Ok n) b e = ap not e
+walked (Err k) b e = ap not e
 
 -- a walk of the whole file came to its end: so many images
 pub whole_counts : (file : List ℕ) → whole_file file ≡ true → (n : ℕ) × (counting file ≡ value n)

@@ -3,15 +3,16 @@ use Prim.Native.Nat.{ℕ, ◌+◌, ◌-◌, ◌≤◌, ◌<◌}
 use native.Mathlib.Omega.{arith}
 use native.Mathlib.Decide.{ℕ_discrete}
 use mathlib.Core.Path.{◌≡◌, refl, sym, ap, ◌∙◌}
-use mathlib.Core.Bool.{Bool, true, false, cond, ◌||◌}
+use mathlib.Core.Bool.{Bool, true, false, ◌||◌}
 use mathlib.Core.List.{List}
 use borrow.Author.Tests.{lt-ltb, le-ltb, eq-eqb, ne_eqb, ltb-false}
 use lib.Dec.{ltb}
 use lib.ListN.{length}
-use Rattle.jhash.specs.Outcome.{Outcome, refusal}
-use Rattle.image.proofs.Bools.{or_false_first, or_false_second, chose_second}
+use Rattle.jhash.specs.Outcome.{Outcome, value, refusal}
+use Rattle.jhash.proofs.ValueOrRefusal.{no_value, same_value}
+use Rattle.image.proofs.Bools.{or_false_first, or_false_second}
 use Rattle.bundle.specs.FileWalk.{size_at, breaks, file_step}
-use Rattle.bundle.specs.Steps.Contracts.{ImageSizeRead}
+use Rattle.bundle.specs.Steps.Contracts.{image_size}
 
 -- an image begins at the place: its size word is there, is at least 2,072, and does not lead past the file's end
 pub record Begins (file : List ℕ) (at : ℕ) : Type 0 where
@@ -73,43 +74,43 @@ module _ (file : List ℕ) (at : ℕ) where
         let n : at ≡ length file → ⊥ = λ e. (let h = b.head in omega arith) in
         rw (ne_eqb at (length file) n, begins_unbroken b)
 
-  -- the size of the image that begins there, 0 where the walk breaks off: as the code reads it, w is the size word
-  pub size_short : at ≤ length file → length file - at < 8 → ImageSizeRead file at 0
-  size_short h k = record { size = simp (lt-ltb (length file) (at + 8) (omega arith)); inside = omega arith }
+  -- the step as the code reads it, where w is the size word
+  pub size_end : at ≤ length file → length file - at ≡ 0 → refusal 11 ≡ image_size file at
+  size_end h k = let e : at ≡ length file = omega arith in sym (step_ended (refusal 11) (value (size_at file at)) e)
 
-  pub size_small : (w : ℕ) → at ≤ length file → 8 ≤ length file - at → w ≡ size_at file at → w < 2072 → ImageSizeRead file at 0
-  size_small w h k e l =
-      record {
-        size = simp (le-ltb (length file) (at + 8) (omega arith), lt-ltb (size_at file at) 2072 (omega arith));
-        inside = omega arith;
-      }
+  module _ (h : at ≤ length file) (n : length file - at ≡ 0 → ⊥) where
+    apart : at ≡ length file → ⊥
+    apart e = n (omega arith)
 
-  pub size_past : (w : ℕ) → at ≤ length file → 8 ≤ length file - at → w ≡ size_at file at → 2072 ≤ w → length file - at < w
-      → ImageSizeRead file at 0
-  size_past w h k e l p =
-      let whole = le-ltb (length file) (at + 8) (omega arith) in
-      let large = le-ltb (size_at file at) 2072 (omega arith) in
-      let past = lt-ltb (length file) (at + size_at file at) (omega arith) in
-      record { size = simp (whole, large, past); inside = omega arith }
+    broken_there : breaks file at ≡ true → refusal 10 ≡ image_size file at
+    broken_there b = sym (step_broke (refusal 11) (value (size_at file at)) apart b)
 
-  pub size_fine : (w : ℕ) → at ≤ length file → 8 ≤ length file - at → w ≡ size_at file at → 2072 ≤ w → w ≤ length file - at
-      → ImageSizeRead file at w
-  size_fine w h k e l p =
-      let begins : Begins file at = record { head = omega arith; large = omega arith; inside = omega arith } in
-      record {
-        size = e ∙ ap (λ (b : Bool). cond b 0 (size_at file at)) (sym (begins_unbroken begins));
-        inside = omega arith;
-      }
+    pub size_short : length file - at < 8 → refusal 10 ≡ image_size file at
+    size_short k = broken_there (simp (lt-ltb (length file) (at + 8) (omega arith)))
 
-  -- what that number says
-  pub none_there : (w : ℕ) → ImageSizeRead file at w → w ≡ 0 → breaks file at ≡ true
-  none_there w r z = breaks_where_none (breaks file at) refl (sym z ∙ r.size)
+    module _ (w : ℕ) (k : 8 ≤ length file - at) (e : w ≡ size_at file at) where
+      pub size_small : w < 2072 → refusal 10 ≡ image_size file at
+      size_small l = broken_there (simp (le-ltb (length file) (at + 8) (omega arith), lt-ltb (size_at file at) 2072 (omega arith)))
+
+      pub size_past : 2072 ≤ w → length file - at < w → refusal 10 ≡ image_size file at
+      size_past l p =
+          let whole = le-ltb (length file) (at + 8) (omega arith) in
+          let large = le-ltb (size_at file at) 2072 (omega arith) in
+          let past = lt-ltb (length file) (at + size_at file at) (omega arith) in
+          broken_there (simp (whole, large, past))
+
+      pub size_fine : 2072 ≤ w → w ≤ length file - at → value w ≡ image_size file at
+      size_fine l p =
+          let begins : Begins file at = record { head = omega arith; large = omega arith; inside = omega arith } in
+          ap value e ∙ sym (step_began (refusal 11) (value (size_at file at)) begins)
+
+  -- what a size says
+  pub there : (w : ℕ) → value w ≡ image_size file at → ImageThere file at w
+  there w e = by_case met
     where
-      breaks_where_none : (b : Bool) → breaks file at ≡ b → 0 ≡ cond b 0 (size_at file at) → b ≡ true
-      breaks_where_none true p q = refl
-      breaks_where_none false p q = let l = (unbroken p).large in absurd (omega arith)
-
-  pub some_there : (w : ℕ) → ImageSizeRead file at w → (w ≡ 0 → ⊥) → ImageThere file at w
-  some_there w r n =
-      let chosen = chose_second (breaks file at) 0 (size_at file at) w (λ z. n (sym z)) (sym r.size) in
-      record { begins = unbroken chosen.0; size_is = chosen.1 }
+      by_case : Met file at → ImageThere file at w
+      by_case (ended q) = absurd (no_value 11 w (sym (step_ended (refusal 11) (value (size_at file at)) q) ∙ sym e))
+      by_case (broke n b) = absurd (no_value 10 w (sym (step_broke (refusal 11) (value (size_at file at)) n b) ∙ sym e))
+      by_case (began b) =
+          let same = same_value w (size_at file at) (e ∙ step_began (refusal 11) (value (size_at file at)) b) in
+          record { begins = b; size_is = sym same }

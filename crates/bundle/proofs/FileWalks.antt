@@ -6,8 +6,10 @@ use mathlib.Core.Bool.{true}
 use mathlib.Core.List.{List}
 use lib.ListN.{length}
 use Rattle.jhash.specs.Outcome.{Outcome, value, refusal}
+use Rattle.jhash.proofs.ValueOrRefusal.{no_value, same_refusal}
+use Rattle.bundle.specs.Steps.Contracts.{image_size}
 use Rattle.bundle.specs.FileWalk.{Place, size_at, breaks, place_from, count_images_from, counting}
-use Rattle.bundle.proofs.FileSteps.{Begins, step_ended, step_broke, step_began}
+use Rattle.bundle.proofs.FileSteps.{Begins, Met, ended, broke, began, met, step_ended, step_broke, step_began}
 
 module _ (file : List ℕ) (at : ℕ) where
   pub place_ended : (k : ℕ) → at ≡ length file → place_from file at k ≡ refusal 11
@@ -41,6 +43,25 @@ module _ (file : List ℕ) (at : ℕ) where
   pub count_next : (m n : ℕ) → Begins file at → count_images_from (suc m) file at n ≡ count_images_from m file (at + size_at file at) (suc n)
   unfolding count_images_from
   count_next m n b = step_began file at (value n) (count_images_from m file (at + size_at file at) (suc n)) b
+
+  -- a step that is refused ends the walk
+  pub place_refused : (k m : ℕ) → refusal k ≡ image_size file at → place_from file at m ≡ refusal k
+  place_refused k m r = by_case (met file at)
+    where
+      by_case : Met file at → place_from file at m ≡ refusal k
+      by_case (ended q) =
+          place_ended m q ∙ ap refusal (same_refusal 11 k (sym (step_ended file at (refusal 11) (value (size_at file at)) q) ∙ sym r))
+      by_case (broke n b) =
+          place_broke m n b ∙ ap refusal (same_refusal 10 k (sym (step_broke file at (refusal 11) (value (size_at file at)) n b) ∙ sym r))
+      by_case (began b) = absurd (no_value k (size_at file at) (r ∙ step_began file at (refusal 11) (value (size_at file at)) b))
+
+  pub count_refused : (k m n : ℕ) → (at ≡ length file → ⊥) → refusal k ≡ image_size file at → count_images_from m file at n ≡ refusal k
+  count_refused k m n before r = by_case (met file at)
+    where
+      by_case : Met file at → count_images_from m file at n ≡ refusal k
+      by_case (ended q) = absurd (before q)
+      by_case (broke d b) = count_broke m n d b ∙ sym (step_broke file at (refusal 11) (value (size_at file at)) d b) ∙ sym r
+      by_case (began b) = absurd (no_value k (size_at file at) (r ∙ step_began file at (refusal 11) (value (size_at file at)) b))
 
   pub count_over : (n : ℕ) → Begins file at → count_images_from 0 file at n ≡ refusal 10
   unfolding count_images_from

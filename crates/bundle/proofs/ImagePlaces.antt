@@ -10,7 +10,7 @@ use Rattle.jhash.proofs.ValueOrRefusal.{no_value, same_value}
 use Rattle.bundle.specs.FileWalk.{Place, size_at, place_from, place_of_image}
 use Rattle.reader.specs.Open.{opening}
 use Rattle.reader.specs.Slices.{Slice, subslice}
-use Rattle.bundle.specs.Opening.{image_or_empty, returned_part, image_or, with_num, open_in, opening_at}
+use Rattle.bundle.specs.Opening.{image_or_empty, returned_part, image_or, with_num, open_in}
 use Rattle.bundle.proofs.FileSteps.{Begins, Met, ended, broke, began, met}
 use Rattle.bundle.proofs.FileWalks.{place_ended, place_broke, place_here, place_next}
 
@@ -42,10 +42,6 @@ stands file (suc k) at p e = stands_behind (met file at) (λ d. stands file k (a
         let s = more (sym (place_next file at k b) ∙ e) in
         record { behind = omega (arith, s.behind); begins = s.begins; sized = s.sized }
 
--- the part as the code cuts it out
-cut : (start size : ℕ) (file : List ℕ) → take (start + size - start) (drop start file) ≡ take size (drop start file)
-cut start size file = let d : start + size - start ≡ size = omega arith in ap (λ (n : ℕ). take n (drop start file)) d
-
 module _ (file : List ℕ) (k start size : ℕ) (e : place_of_image file k ≡ value (record { start = start; size = size })) where
   -- the place lies in the file
   pub place_inside : start + size ≤ length file
@@ -63,18 +59,6 @@ module _ (file : Slice) (k : ℕ) where
 
   pub no_part : (n : ℕ) → place_of_image file.bytes k ≡ refusal n → subslice file 0 0 ≡ returned_part file k
   no_part n e = ap (image_or_empty file) (sym e)
-
--- opening: by the walk, then by the checks of opening on the cut part
-module _ (file : List ℕ) (k : ℕ) where
-  pub opened_there : (start size : ℕ) (o : Outcome ℕ) → place_of_image file k ≡ value (record { start = start; size = size })
-      → o ≡ opening (take (start + size - start) (drop start file))
-      → with_num (record { start = start; size = size }) o ≡ opening_at file k
-  opened_there start size o e is =
-      let p : Place = record { start = start; size = size } in
-      ap (with_num p) (is ∙ ap opening (cut start size file)) ∙ ap (open_in file) (sym e)
-
-  pub not_opened : (n : ℕ) → place_of_image file k ≡ refusal n → refusal n ≡ opening_at file k
-  not_opened n e = ap (open_in file) (sym e)
 
 -- an image that a walk comes to is opened as it is alone
 pub opens_alone : (file : List ℕ) (o : Outcome Place) (image : List ℕ) → image_or file o ≡ value image

@@ -9,30 +9,17 @@ pub mod appending; // appending.rt: append
 pub use appending::append;
 pub use walking::{count, open, part, place};
 
-// Where the image at a position stands, its first byte's place and how many bytes it has; or the refusal's number.
+// Where an image stands: its first byte's place and how many bytes it has.
 #[derive(Clone, Copy)]
-pub enum PlaceAnswer {
-    Image { start: usize, size: usize },
-    Refused(u32),
+pub struct ImagePlace {
+    pub start: usize,
+    pub size: usize,
 }
 
-// What opening answers: the number of entries (`num` of cqdb-rs) and where the image stands; or the refusal's number.
+// What opening answers: the number of entries (`num` of cqdb-rs) and where the image stands.
 #[derive(Clone, Copy)]
-pub enum OpenedAt {
-    Image { num: u32, start: usize, size: usize },
-    Refused(u32),
-}
-
-// How many images a file holds; or the refusal's number.
-#[derive(Clone, Copy)]
-pub enum Counted {
-    Images(usize),
-    Refused(u32),
-}
-
-// What append answers: the joined length, or the refusal's number.
-#[derive(Clone, Copy)]
-pub enum Appended {
-    Length(usize),
-    Refused(u32),
+pub struct OpenedImage {
+    pub num: u32,
+    pub start: usize,
+    pub size: usize,
 }

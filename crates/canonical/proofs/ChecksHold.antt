@@ -3,7 +3,7 @@ use Prim.Native.Nat.{ℕ, ◌+◌, ◌*◌, ◌-◌, ◌≤◌, ◌<◌}
 use native.Mathlib.Omega.{arith}
 use native.Mathlib.Nat.{mod-lt}
 use mathlib.Core.Path.{◌≡◌, refl, sym, ap, ap₂, ◌∙◌}
-use mathlib.Core.Bool.{Bool, true, false, cond, not}
+use mathlib.Core.Bool.{Bool, true, cond, not}
 use mathlib.Core.List.{List, map}
 use lib.ListN.{length, take, drop, replicate, length-map}
 use lib.Dec.{eqb}
@@ -32,7 +32,7 @@ use Rattle.canonical.specs.Steps.HiddenBuckets.{own_back_words, Stands, TableMat
 use Rattle.canonical.specs.Steps.InPlace.{bucket_at, back_word_at}
 use Rattle.canonical.specs.Steps.Made.{Storable, Made}
 use Rattle.canonical.specs.Steps.Checks.{end_in, entries_to, row_count, table_place, counts_match, not_before}
-use Rattle.canonical.specs.Steps.Checks.{two_way, entries_ok, back_words_counted, Checked}
+use Rattle.canonical.specs.Steps.Checks.{two_way, is_two, entries_ok, back_words_counted, Checked}
 use Rattle.canonical.proofs.InPlace.{InPlace}
 use Rattle.canonical.proofs.BackArray.{all_own, back_words_match}
 use Rattle.canonical.proofs.FilledTable.{filled_matches}
@@ -44,10 +44,6 @@ use Rattle.canonical.proofs.RisingOffsets.{all_rise, table_rises}
 use Rattle.canonical.proofs.ChecksSuffice.{counts_are}
 
 -- has a mode back words?
-abbrev is_two : Mode → Bool
-is_two Twoway = true
-is_two Oneway = false
-
 module _ (mode : Mode) (es : List Entry) (each : All Storable es) (fits : image_size mode es ≤ 4294967295) where
   img : List ℕ
   img = image mode es

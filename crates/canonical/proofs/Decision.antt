@@ -5,11 +5,18 @@ use mathlib.Core.Path.{◌≡◌, refl, sym, ◌∙◌}
 use mathlib.Core.Bool.{Bool, true, false, cond}
 use mathlib.Core.List.{List}
 use lib.ListN.{length}
-use lib.Dec.{eqb}
+use lib.Dec.{eqb, leb}
+use borrow.Author.Tests.{leb-true, le-leb}
+use Rattle.std.specs.Prelude.{Result, Ok, Err}
+use Rattle.jhash.specs.declared.refusals.Refusal.{Refusal}
+use Rattle.jhash.specs.declared.refusals.Refusal.TheVariants.{Unfit}
 use Rattle.jhash.specs.Outcome.{value, refusal}
 use Rattle.image.specs.Bytes.{word}
 use Rattle.image.specs.Head.{back_size_at, back_offset_at}
 use Rattle.image.specs.Image.{head_size}
+use Rattle.image.specs.declared.Mode.{Mode}
+use Rattle.image.specs.declared.Mode.TheVariants.{Twoway, Oneway}
+use Rattle.image.specs.Steps.Contracts.{mode_read}
 use Rattle.image.proofs.EntryArea.{AllBytes}
 use Rattle.image.proofs.Bools.{false_not_true}
 use Rattle.reader.specs.Open.{opening}
@@ -19,6 +26,24 @@ use Rattle.canonical.proofs.ReadBack.{canonical_yes, canonical_only}
 use Rattle.canonical.proofs.TableChecks.{never_value}
 use Rattle.canonical.proofs.ChecksSuffice.{checked_made}
 use Rattle.canonical.proofs.ChecksHold.{canonical_checked}
+
+-- ---- the flag word: what reads as a mode is at most 1, and what does not is larger
+
+pub mode_read_ok : (w : ℕ) (m : Mode) → Ok m ≡ mode_read w → (w ≤ 1) × (m ≡ cond (eqb w 0) Twoway Oneway)
+mode_read_ok w m e = by_test (leb w 1) refl e
+  where
+    by_test : (t : Bool) → leb w 1 ≡ t → ◌≡◌ {A = Result Mode Refusal} (Ok m) (cond t (Ok (cond (eqb w 0) Twoway Oneway)) (Err Unfit))
+        → (w ≤ 1) × (m ≡ cond (eqb w 0) Twoway Oneway)
+    by_test true p q = (leb-true w 1 p, cc)
+    by_test false p q = cc
+
+pub mode_read_err : (w : ℕ) (r : Refusal) → Err r ≡ mode_read w → w ≤ 1 → ⊥
+mode_read_err w r e h =
+    let t = le-leb w 1 h in
+    let q : ◌≡◌ {A = Result Mode Refusal} (Err r) (Ok (cond (eqb w 0) Twoway Oneway)) = rw t at e in
+    cc
+
+-- ---- all checks
 
 not_canonical : (img : List ℕ) → AllBytes img → ((m : ℕ) → Checked img m → ⊥) → false ≡ canonical img
 not_canonical img bytes d = answer_false (canonical img) refl

@@ -2,15 +2,15 @@
 // its put took, and in a two-way image that its id's word in the back array is not below its offset. A put took the
 // first bucket of its probe sequence that was empty then. Offsets rise in put order, so in the finished table that is
 // the first bucket that is empty or has an offset at or after the entry's own.
-ghost use Rattle.std.specs.Prelude.{◌≡◌};
-ghost use Rattle.canonical.specs.Steps.Checks.{TablesHeld, in_its_bucket, entry_name, name_ok, not_before};
-ghost use Rattle.canonical.specs.Steps.Contracts.{CheckEntryPre, OneIf, CheckEntriesPre, EntriesFound};
+ghost use Rattle.std.specs.Prelude.{◌≡◌, MatchOption};
+ghost use Rattle.canonical.specs.Steps.Checks.{TablesHeld, in_its_bucket, entry_name, name_ok, is_two, not_before};
+ghost use Rattle.canonical.specs.Steps.Contracts.{CheckEntryPre, CheckEntriesPre, EntriesWrong, EntriesFound};
 
-use image::entries::{larger, name_at, raise, whole_length};
+use image::entries::{name_at, raise, whole_length};
 use image::probe::{first_empty_before, start};
-use image::rows::{bucket_number, table_at};
+use image::rows::Row;
 use image::zero::has_zero;
-use image::{HEAD_SIZE, size_or_zero, word_or_zero};
+use image::{HEAD_SIZE, Mode, size_or_zero, word_or_zero};
 use jhash::hash_or_zero;
 use jhash::word::word;
 
@@ -19,8 +19,9 @@ fn in_its_bucket(image: &[u8], h: u32, at: u32) -> bool
     requires { TablesHeld image.now }
     ensures { result ≡ in_its_bucket image.now h at }
 {
-    let o = table_at(image, h);
-    let n = bucket_number(image, h);
+    let table = Row::of(image, (h % 256) as usize);
+    let o = table.offset;
+    let n = table.buckets;
     if n == 0 {
         return false;
     }
@@ -43,24 +44,15 @@ fn check_entry(image: &[u8], at: usize, n: usize, h: u32) -> bool
 }
 
 // Is the back word w not below the entry's offset `at`? A one-way image has no back words.
-fn not_before(two: bool, at: usize, w: u32) -> bool
-    ensures { result ≡ not_before two at w }
+fn not_before(mode: Mode, at: usize, w: u32) -> bool
+    ensures { result ≡ not_before (is_two mode) at w }
 {
-    !(two & ((w as usize) < at))
+    (mode == Mode::Oneway) | (at <= w as usize)
 }
 
-// 1 for equal numbers, else 0.
-fn one_if_equal(w: u32, at: usize) -> u64
-    ensures { OneIf w at result }
-{
-    if w as usize == at { 1 } else { 0 }
-}
-
-// What the walk found: whether the entries are valid, their back size, and how many of them their id's back word points
-// to.
+// What the walk found of entries that are valid: their back size, and how many of them their id's back word points to.
 #[derive(Clone, Copy)]
 pub struct EntriesChecked {
-    pub valid: bool,
     pub back: u64,
     pub lasts: u64,
 }
@@ -70,45 +62,32 @@ pub(super) fn check_entries(
     image: &[u8],
     end: usize,
     entries: u32,
-    two: bool,
+    mode: Mode,
     o: usize,
     counts: &mut [u32; 256],
-) -> EntriesChecked
+) -> Option<EntriesChecked>
     requires { CheckEntriesPre image.now end o counts.old }
-    ensures { EntriesFound image.now end entries two o counts.old counts.new result }
+    ensures { MatchOption result (EntriesWrong image.now end entries (is_two mode) o)
+        (EntriesFound image.now end entries (is_two mode) o counts.old counts.new) }
 {
     let mut at = HEAD_SIZE;
-    let mut left = entries;
     let mut back: u64 = 0;
     let mut lasts: u64 = 0;
-    while left > 0 {
-        let n = whole_length(image, at, end);
-        if n == 0 {
-            return EntriesChecked {
-                valid: false,
-                back: 0,
-                lasts: 0,
-            };
-        }
+    for _ in 0..entries {
+        let n = whole_length(image, at, end)?;
         let h = hash_or_zero(name_at(image, at, n));
         let id = size_or_zero(image, at);
         let w = word_or_zero(image, o + 4 * id);
-        if !(not_before(two, at, w) & check_entry(image, at, n, h)) {
-            return EntriesChecked {
-                valid: false,
-                back: 0,
-                lasts: 0,
-            };
+        if !(not_before(mode, at, w) & check_entry(image, at, n, h)) {
+            return None;
         }
         raise(&mut *counts, h);
-        back = larger(back, id as u64 + 1);
-        lasts += one_if_equal(w, at);
+        back = back.max(id as u64 + 1);
+        lasts += u64::from(w as usize == at);
         at += 8 + n;
-        left -= 1;
     }
-    EntriesChecked {
-        valid: at == end,
-        back,
-        lasts,
+    if at != end {
+        return None;
     }
+    Some(EntriesChecked { back, lasts })
 }

@@ -2,21 +2,41 @@
 use Prim.Native.Nat.{ℕ, ◌+◌, ◌≤◌, ◌<◌}
 use native.Mathlib.Omega.{arith}
 use native.Mathlib.Decide.{dec_lt}
-use mathlib.Core.Path.{◌≡◌, sym, ap, ◌∙◌}
-use mathlib.Core.Bool.{Bool, true, cond, ◌&&◌}
+use mathlib.Core.Path.{◌≡◌, refl, sym, ap, ◌∙◌}
+use mathlib.Core.Bool.{Bool, true, false, cond, ◌&&◌}
 use mathlib.Core.List.{List}
 use lib.ListN.{length, get_or, take, get_or-eq_default}
 use lib.Dec.{eqb, leb}
 use borrow.Author.Tests.{leb-true, eqb-true, le-leb, eq-eqb}
 use Rattle.image.proofs.Bools.{and_first, and_second, chose_first}
-use Rattle.catalogue.specs.Lines.{leading_digits, decimal, entry, other, form_with, parse_line}
+use Rattle.catalogue.specs.Lines.{Form, leading_digits, decimal, entry, other, form_with, parse_line}
 
 -- a line's form by its four tests, n being the digits in front
-pub form_by : (line : List ℕ) (n : ℕ) (a b c d : Bool) → n ≡ leading_digits line → leb 1 n ≡ a → leb n 10 ≡ b → eqb (get_or line n 0) 32 ≡ c
-    → leb (decimal (take n line)) 4294967295 ≡ d → cond (a && b && c && d) (entry (decimal (take n line)) (n + 1)) other ≡ parse_line line
-unfolding parse_line
-form_by line n a b c d e ea eb ec ed =
-    sym (λ i. cond (ea i && eb i && ec i && ed i) (entry (decimal (take n line)) (n + 1)) other) ∙ ap (form_with line) e
+module _ (line : List ℕ) (n : ℕ) (e : n ≡ leading_digits line) where
+  form_here : parse_line line ≡ form_with line n
+  unfolding parse_line
+  form_here = ap (form_with line) (sym e)
+
+  chosen_other : (a b c d : Bool) (x y : Form) → (a ≡ true → b ≡ true → c ≡ true → d ≡ true → ⊥) → cond (a && b && c && d) x y ≡ y
+  chosen_other true true true true x y h = absurd (h refl refl refl refl)
+  chosen_other true true true false x y h = refl
+  chosen_other true true false d x y h = refl
+  chosen_other true false c d x y h = refl
+  chosen_other false b c d x y h = refl
+
+  pub other_unless : (1 ≤ n → n ≤ 10 → get_or line n 0 ≡ 32 → decimal (take n line) ≤ 4294967295 → ⊥) → parse_line line ≡ other
+  other_unless h =
+      form_here
+      ∙ chosen_other (leb 1 n) (leb n 10) (eqb (get_or line n 0) 32) (leb (decimal (take n line)) 4294967295) _ _
+      (λ p q r s. h (leb-true 1 n p) (leb-true n 10 q) (eqb-true (get_or line n 0) 32 r) (leb-true (decimal (take n line)) 4294967295 s))
+
+  pub form_read : 1 ≤ n → n ≤ 10 → get_or line n 0 ≡ 32 → decimal (take n line) ≤ 4294967295 → parse_line line ≡ entry (decimal (take n line)) (n + 1)
+  form_read low high space word =
+      let p = le-leb 1 n low in
+      let q = le-leb n 10 high in
+      let r = eq-eqb (get_or line n 0) 32 space in
+      let s = le-leb (decimal (take n line)) 4294967295 word in
+      form_here ∙ (λ i. cond (p i && q i && r i && s i) (entry (decimal (take n line)) (n + 1)) other)
 
 -- where a name begins
 pub record Named (line : List ℕ) (at : ℕ) : Type 0 where
@@ -48,15 +68,3 @@ named line id at e =
     let in-line = space_inside line n (eqb-true (get_or line n 0) 32 (and_second (some-digits && few-digits) space held)) in
     let same : n + 1 ≡ at = cc chosen.1 in
     record { inside = omega arith; low = omega arith }
-
--- the line's form by its last two tests, where 1 to 10 digits stand in front
-pub form_digits : (line : List ℕ) (n : ℕ) (c d : Bool) → n ≡ leading_digits line → 1 ≤ n → n ≤ 10 → eqb (get_or line n 0) 32 ≡ c
-    → leb (decimal (take n line)) 4294967295 ≡ d → cond (true && true && c && d) (entry (decimal (take n line)) (n + 1)) other ≡ parse_line line
-form_digits line n c d e low high ec ed = form_by line n true true c d e (le-leb 1 n low) (le-leb n 10 high) ec ed
-
--- by the number v that was read of the digits
-pub form_read : (line : List ℕ) (n v : ℕ) (d : Bool) → n ≡ leading_digits line → 1 ≤ n → n ≤ 10 → get_or line n 0 ≡ 32 → v ≡ decimal (take n line)
-    → leb v 4294967295 ≡ d → cond d (entry v (n + 1)) other ≡ parse_line line
-form_read line n v d e low high space read ed =
-    ap (λ (k : ℕ). cond d (entry k (n + 1)) other) read
-    ∙ form_digits line n true d e low high (eq-eqb (get_or line n 0) 32 space) (ap (λ (k : ℕ). leb k 4294967295) (sym read) ∙ ed)

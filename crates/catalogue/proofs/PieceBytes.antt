@@ -1,27 +1,24 @@
 -- A piece taken byte by byte, and what the calls on the way leave. Assumes nothing.
-use Prim.Native.Nat.{ℕ, ◌+◌, ◌-◌, ◌≤◌, ◌<◌}
-use native.Mathlib.Omega.{arith}
+use Prim.Native.Nat.{ℕ, ◌+◌, ◌≤◌, ◌<◌}
 use native.Mathlib.Numerals.{add-one}
 use mathlib.Core.Path.{◌≡◌, sym, ap, ◌∙◌}
 use mathlib.Core.Bool.{Bool, cond}
 use mathlib.Core.List.{List}
-use lib.ListN.{length, get_or, take, drop, set, length-drop, drop_of_length-le}
-use lib.Seq.{drop-cons, take_all}
+use lib.ListN.{length, get_or, take, drop, set, drop_of_length-le}
+use lib.Seq.{drop-cons}
 use borrow.Author.Tests.{lt-ltb, le-ltb, eq-eqb, ne_eqb}
 use Rattle.writer.specs.State.{State}
 use Rattle.writer.specs.Put.{entry_of, after_put}
-use Rattle.catalogue.specs.Lines.{entry, parse_line, after_put_line}
+use Rattle.catalogue.specs.Lines.{after_put_line}
+use Rattle.catalogue.specs.Steps.Contracts.{Parsed}
 use Rattle.catalogue.specs.Steps.Pieces.{Gathering, have_after, gathered, line_ended, take_byte, take_piece}
 use Rattle.catalogue.proofs.Skipped.{after_entry}
 
--- a line's put, of the part of the line that is the name: it leaves `after`
-pub put_part : (s after : State) (line : List ℕ) (id at : ℕ) → parse_line line ≡ entry id at
-    → after ≡ after_put s (entry_of (take (length line - at) (drop at line)) id) → after ≡ after_put_line s line
-put_part s after line id at e put =
-    let l = length-drop at line in
-    put
-    ∙ ap (λ (name : List ℕ). after_put s (entry_of name id)) (take_all (length line - at) (drop at line) (omega arith))
-    ∙ sym (after_entry s line id at e)
+-- a line's put: it leaves `after`
+pub put_parsed : (s after : State) (line : List ℕ) (id : ℕ) (name : List ℕ) → Parsed line id name → after ≡ after_put s (entry_of name id)
+    → after ≡ after_put_line s line
+put_parsed s after line id name p put =
+    put ∙ ap (λ (n : List ℕ). after_put s (entry_of n id)) p.named ∙ sym (after_entry s line id p.at p.form)
 
 -- the line at hand, ended: put where it has room, dropped where it has not
 module _ (s : State) (room : List ℕ) (have : ℕ) where

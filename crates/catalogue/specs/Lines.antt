@@ -5,8 +5,6 @@ use Rattle.std.specs.Prelude.{get_or, take, drop, eqb, leb}
 use Rattle.writer.specs.State.{State}
 use Rattle.writer.specs.Put.{entry_of}
 use Rattle.lists.specs.Calls.{Call, put, after}
-use Rattle.catalogue.specs.declared.Line.{Line}
-use Rattle.catalogue.specs.declared.Line.TheVariants.{Entry, Other}
 
 -- lines, the first of which has this byte in front
 unfoldable pub with_byte : ℕ → List (List ℕ) → List (List ℕ)
@@ -50,11 +48,6 @@ form_with line n =
 
 unfoldable pub parse_line : List ℕ → Form
 parse_line line = form_with line (leading_digits line)
-
--- 01's values for each case of the answer of `parse_line`
-abbrev pub form_of : Line → Form
-form_of (Entry id name) = entry id name
-form_of Other = other
 
 -- the put that a line asks for; a line of another form is skipped
 abbrev pub calls_by : List ℕ → Form → List Call

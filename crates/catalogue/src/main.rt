@@ -9,21 +9,13 @@ ghost use Rattle.catalogue.specs.Lines.{after_input};
 ghost use Rattle.catalogue.specs.Left.{Left, Built, IsBuiltOf};
 
 use image::Mode;
-use pieces::{end_input, take_piece};
-use reader::Stepped;
+use reader::id_walk;
 use std::io;
 use std::io::{ErrorKind, Read, Write};
-use writer::{CQDBWriter, Closed, Repeats};
+use writer::{CQDBWriter, Repeats};
 
 mod parsing; // parsing.rt: a line, an id and a name
 mod pieces; // pieces.rt: lines put one after the other, of an input that comes in pieces
-
-// What a line is: an id, and where its name begins; or something of another form.
-#[derive(Clone, Copy)]
-pub enum Line {
-    Entry { id: u32, name: usize },
-    Other,
-}
 
 // What is kept between the pieces of an input: the writer record, and how many bytes of the line at hand have come.
 #[derive(Clone, Copy)]
@@ -52,19 +44,19 @@ fn put_input<R: Read>(
     let mut t = Intake { writer: w, have: 0 };
     for _ in 0..u64::MAX {
         match input.read(&mut *piece) {
-            Ok(0) => return (end_input(t, counts, buf, &*room), Ok(())),
-            Ok(n) => t = take_piece(t, &mut *counts, &mut *buf, &mut *room, &piece[..n]),
-            Err(e) => return (end_input(t, counts, buf, &*room), Err(e)),
+            Ok(0) => return (t.end_input(counts, buf, &*room), Ok(())),
+            Ok(n) => t.take_piece(&mut *counts, &mut *buf, &mut *room, &piece[..n]),
+            Err(e) => return (t.end_input(counts, buf, &*room), Err(e)),
         }
     }
     (
-        end_input(t, counts, buf, &*room),
+        t.end_input(counts, buf, &*room),
         Err(io::Error::from(ErrorKind::TimedOut)),
     )
 }
 
 // What is printed first: the number of entries, and the size of the image, which is the buffer's first bytes.
-#[derive(Clone, Copy)]
+#[derive(Clone, Copy, Default)]
 struct Totals {
     entries: u32,
     size: u32,
@@ -85,38 +77,19 @@ fn build<R: Read>(
         → 0 < length piece.old → IfSome (R.remaining input.old) (λ bytes.
         IsBuiltOf (length buf.old) bytes result.0.entries result.0.size buf.new)) }
 {
-    let writer::Begun::Fresh(fresh) = writer::begin(Mode::Twoway, Repeats::Off, &mut *counts, &*buf)
-    else {
-        return (
-            Totals {
-                entries: 0,
-                size: 0,
-            },
-            Ok(()),
-        );
+    let Ok(fresh) = writer::begin(Mode::Twoway, Repeats::Off, &mut *counts, &*buf) else {
+        return (Totals::default(), Ok(()));
     };
     let (w, read) = put_input(input, fresh, &mut *counts, &mut *buf, room, piece);
-    let answer = writer::close(w, &*counts, buf).answer;
-    let Closed::Size(size) = answer else {
-        return (
-            Totals {
-                entries: 0,
-                size: 0,
-            },
-            read,
-        );
+    let Ok(size) = w.close(&*counts, buf) else {
+        return (Totals::default(), read);
     };
-    (
-        Totals {
-            entries: w.entries,
-            size,
-        },
-        read,
-    )
+    let entries = w.entries;
+    (Totals { entries, size }, read)
 }
 
 // Two things on a line, with a space between them: a number, and bytes.
-fn print_line<W: Write>(output: &mut W, n: u64, rest: &[u8]) -> io::Result<()> {
+fn print_line<W: Write>(output: &mut W, n: u32, rest: &[u8]) -> io::Result<()> {
     write!(output, "{n} ")?;
     output.write_all(rest)?;
     output.write_all(b"\n")
@@ -124,20 +97,17 @@ fn print_line<W: Write>(output: &mut W, n: u64, rest: &[u8]) -> io::Result<()> {
 
 // The walk, as id and name.
 fn print_walk<W: Write>(output: &mut W, image: &[u8]) -> io::Result<()> {
-    let mut walk = reader::id_walk::iter();
-    loop {
-        let Stepped::Item {
-            id,
-            start,
-            len,
-            iter,
-        } = reader::id_walk::next(image, walk)
-        else {
-            return Ok(());
-        };
-        print_line(output, id as u64, &image[start..start + len])?;
-        walk = iter;
+    let mut walk = id_walk::iter();
+    while let Some(item) = id_walk::next(image, walk) {
+        let place = item.place;
+        print_line(
+            output,
+            item.id,
+            &image[place.start..place.start + place.len],
+        )?;
+        walk = item.iter;
     }
+    Ok(())
 }
 
 // Entries and size, then the walk of the image, which is the buffer's first bytes. It asks for what it is handed to

@@ -1,75 +1,50 @@
 // A line taken apart.
-ghost use Rattle.std.specs.Prelude.{◌≡◌, ◌≤◌, length};
-ghost use Rattle.catalogue.specs.Lines.{is_digit, decimal, parse_line, form_of};
-ghost use Rattle.catalogue.specs.Steps.Contracts.{DigitsCounted, DigitValue};
+ghost use Rattle.std.specs.Prelude.{◌≡◌, ◌<◌, ◌≤◌, ℕ, true, false, length, slice_index, MatchOption};
+ghost use Rattle.catalogue.specs.Lines.{is_digit, parse_line, other};
+ghost use Rattle.catalogue.specs.Steps.Contracts.{Parsed, TooLarge, IsDecimal};
 
-use super::Line;
-
-// Is this one of the digits 0 to 9?
-fn is_digit(b: u8) -> bool
-    ensures { result ≡ is_digit b }
-{
-    48 <= b && b <= 57
+// What a line asks to put: an id and a name.
+#[derive(Clone, Copy)]
+pub struct Entry<'a> {
+    pub id: u32,
+    pub name: &'a [u8],
 }
 
 // How many digits a line begins with.
 fn leading_digits(line: &[u8]) -> usize
-    ensures { DigitsCounted line.now result }
+    ensures inside { result ≤ length line.now }
+    ensures digits { (k : ℕ) → k < result → is_digit (slice_index line.now k) ≡ true }
+    ensures stop { result < length line.now → is_digit (slice_index line.now result) ≡ false }
 {
-    let mut n = 0;
-    while n < line.len() {
-        if !is_digit(line[n]) {
-            return n;
-        }
-        n += 1;
+    line.iter()
+        .position(|b| !b.is_ascii_digit())
+        .unwrap_or(line.len())
+}
+
+// The number that digits write, `None` where it is 2^32 or more.
+fn number(digits: &[u8]) -> Option<u32>
+    ensures { MatchOption result (TooLarge digits.now) (IsDecimal digits.now) }
+{
+    let mut v: u32 = 0;
+    for b in digits {
+        v = v
+            .checked_mul(10)?
+            .checked_add(b.saturating_sub(b'0') as u32)?;
     }
-    n
+    Some(v)
 }
 
-// What a digit stands for.
-fn digit(b: u8) -> u64
-    ensures { DigitValue b result }
-{
-    if b < 48 { 0 } else { (b - 48) as u64 }
-}
-
-// The number that at most ten digits write.
-fn number(digits: &[u8]) -> u64
-    requires { length digits.now ≤ 10 }
-    ensures { result ≡ decimal digits.now }
-{
-    let mut v: u64 = 0;
-    let mut i = 0;
-    while i < digits.len() {
-        v = v * 10 + digit(digits[i]);
-        i += 1;
-    }
-    v
-}
-
-// The id of a line and where its name begins, or that the line is of another form.
-pub fn parse_line(line: &[u8]) -> Line
-    ensures { form_of result ≡ parse_line line.now }
+// The id and the name of a line, `None` where it is of another form.
+pub fn parse_line<'a>(line: &'a [u8]) -> Option<Entry<'a>>
+    ensures { MatchOption result (parse_line line.now ≡ other) (λ e. Parsed line.now e.id e.name.now) }
 {
     let n = leading_digits(line);
-    if n < 1 {
-        return Line::Other;
+    if n < 1 || 10 < n || line.len() <= n || line[n] != b' ' {
+        return None;
     }
-    if 10 < n {
-        return Line::Other;
-    }
-    if line.len() <= n {
-        return Line::Other;
-    }
-    if line[n] != b' ' {
-        return Line::Other;
-    }
-    let id = number(&line[..n]);
-    if 4294967295 < id {
-        return Line::Other;
-    }
-    Line::Entry {
-        id: id as u32,
-        name: n + 1,
-    }
+    let id = number(&line[..n])?;
+    Some(Entry {
+        id,
+        name: &line[n + 1..],
+    })
 }

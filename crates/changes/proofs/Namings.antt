@@ -1,5 +1,5 @@
 -- One id in two images: what the test of their namings tells, and the upper bound. Assumes nothing.
-use Prim.Native.Nat.{ℕ, ◌+◌, ◌*◌, ◌-◌, ◌≤◌, ◌<◌}
+use Prim.Native.Nat.{ℕ, ◌+◌, ◌*◌, ◌-◌, ◌≤◌}
 use native.Mathlib.Omega.{arith}
 use mathlib.Core.Path.{◌≡◌, refl, sym, ap, ◌∙◌}
 use mathlib.Core.Logic.{◌↔◌}
@@ -8,39 +8,20 @@ use mathlib.Core.List.{List}
 use mathlib.Core.Option.{Option, none, some}
 use borrow.Author.Tests.{le-leb, not-false}
 use lib.Dec.{leb}
-use lib.ListN.{take, drop}
-use Rattle.image.specs.Bytes.{word, same}
+use Rattle.image.specs.Bytes.{word}
 use Rattle.image.specs.Head.{back_size_at, back_offset_at}
 use Rattle.image.proofs.Bools.{false_not_true}
 use Rattle.image.proofs.Equal.{same_self, same_true}
-use Rattle.reader.specs.Naming.{Naming, place, unnamed, no_back, naming_at, naming, bytes_at, name_given}
+use Rattle.reader.specs.Naming.{Naming, unnamed, no_back, naming_at, naming, bytes_at, name_given}
 use Rattle.reader.specs.IdWalk.{upper_hint}
 use Rattle.changes.specs.Changes.{upper, equal_namings, differs}
 
--- ---- the test by the two namings
+-- ---- the test by the two names
 
-differs_by : (old new : List ℕ) (id : ℕ) (a b : Naming) → a ≡ naming old id → b ≡ naming new id
-    → not (equal_namings (bytes_at old a) (bytes_at new b)) ≡ differs old new id
+pub differs_by : (old new : List ℕ) (id : ℕ) (a b : Option (List ℕ)) → a ≡ name_given old id → b ≡ name_given new id
+    → not (equal_namings a b) ≡ differs old new id
 unfolding differs
-differs_by old new id a b e f = λ i. not (equal_namings (bytes_at old (e i)) (bytes_at new (f i)))
-
--- two names: their bytes decide
-pub both_named : (old new : List ℕ) (id s n t m : ℕ) (r : Bool) → place s n ≡ naming old id → place t m ≡ naming new id
-    → r ≡ same (take (s + n - s) (drop s old)) (take (t + m - t) (drop t new)) → not r ≡ differs old new id
-both_named old new id s n t m r e f h =
-    let a : s + n - s ≡ n = omega arith in
-    let b : t + m - t ≡ m = omega arith in
-    ap not (h ∙ (λ i. same (take (a i) (drop s old)) (take (b i) (drop t new))))
-    ∙ differs_by old new id (place s n) (place t m) e f
-
-pub name_gone : (old new : List ℕ) (id s n : ℕ) → place s n ≡ naming old id → unnamed ≡ naming new id → true ≡ differs old new id
-name_gone old new id s n e f = differs_by old new id (place s n) unnamed e f
-
-pub name_added : (old new : List ℕ) (id t m : ℕ) → unnamed ≡ naming old id → place t m ≡ naming new id → true ≡ differs old new id
-name_added old new id t m e f = differs_by old new id unnamed (place t m) e f
-
-pub neither_named : (old new : List ℕ) (id : ℕ) → unnamed ≡ naming old id → unnamed ≡ naming new id → false ≡ differs old new id
-neither_named old new id e f = differs_by old new id unnamed unnamed e f
+differs_by old new id a b e f = λ i. not (equal_namings (e i) (f i))
 
 -- ---- what the test tells
 
@@ -84,21 +65,6 @@ unfolding differs
 differs_sym old new id = ap not (same_names_sym (name_given new id) (name_given old id))
 
 -- ---- the upper bound
-
-module _ (old new : List ℕ) (i j a b : ℕ) (ei : i ≡ 0) (ej : j ≡ 0) (ea : a ≡ upper_hint old i) (eb : b ≡ upper_hint new j) where
-  pub second_larger : a < b → b ≡ upper old new
-  unfolding upper
-  second_larger h =
-      let fa = ea ∙ ap (upper_hint old) ei in
-      let fb = eb ∙ ap (upper_hint new) ej in
-      omega (arith, fa, fb)
-
-  pub first_larger : b ≤ a → a ≡ upper old new
-  unfolding upper
-  first_larger h =
-      let fa = ea ∙ ap (upper_hint old) ei in
-      let fb = eb ∙ ap (upper_hint new) ej in
-      omega (arith, fa, fb)
 
 pub upper_sym : (old new : List ℕ) → upper new old ≡ upper old new
 unfolding upper

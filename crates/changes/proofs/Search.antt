@@ -7,14 +7,12 @@ use mathlib.Core.Path.{◌≡◌, refl, sym, ap, ◌∙◌}
 use mathlib.Core.Bool.{Bool, true, false}
 use mathlib.Core.List.{List, [], ◌∷◌}
 use mathlib.Core.Option.{Option, none, some}
+use Rattle.std.specs.Prelude as code
 use Rattle.image.specs.Bytes.{filter, range}
 use Rattle.image.proofs.Lists.{filter_yes, filter_no}
 use Rattle.reader.specs.Naming.{Naming, naming}
 use Rattle.changes.specs.Changes.{upper, differs, first_among, first_change, changed, unchanged, change_at, next_change}
 use Rattle.changes.specs.Theorems.Theorem.{calls}
-
-pub none_some : {A : Type 0} {P : Type 0} (x : A) → none ≡ some x → P
-none_some x e = let z : ◌≡◌ {A = ℕ} 0 1 = cc in absurd (omega arith)
 
 module _ (old new : List ℕ) where
   -- ---- the steps of the search
@@ -27,35 +25,10 @@ module _ (old new : List ℕ) where
   unfolding first_among
   among_alike from m h = ap (λ (t : Bool). elim t [ true ↦ some from | false ↦ first_among old new (from + 1) m ]) h
 
-  -- below a bound u: an id that differs ends the search, another is passed, and at the bound nothing is found
-  pub ends_here : (id u : ℕ) → id < u → differs old new id ≡ true → first_among old new id (u - id) ≡ some id
-  ends_here id u p h =
-      let e : u - id ≡ suc (u - (id + 1)) = omega arith in
-      ap (first_among old new id) e ∙ among_differs id (u - (id + 1)) h
-
-  pub goes_on : (id u : ℕ) → id < u → differs old new id ≡ false → first_among old new (id + 1) (u - (id + 1)) ≡ first_among old new id (u - id)
-  goes_on id u p h =
-      let e : u - id ≡ suc (u - (id + 1)) = omega arith in
-      sym (ap (first_among old new id) e ∙ among_alike id (u - (id + 1)) h)
-
-  pub ends_without : (id u : ℕ) → u ≤ id → first_among old new id (u - id) ≡ none
-  unfolding first_among
-  ends_without id u p =
-      let e : u - id ≡ 0 = omega arith in
-      ap (first_among old new id) e
-
   -- from the start, where the bound is found
   pub starts : (from u : ℕ) → u ≡ upper old new → first_among old new from (u - from) ≡ first_change old new from
   unfolding first_change
   starts from u e = ap (λ (k : ℕ). first_among old new from (k - from)) e
-
-  -- the answer
-  pub answers_change : (from id : ℕ) (a b : Naming) → a ≡ naming old id → b ≡ naming new id → some id ≡ first_change old new from
-      → changed id a b ≡ next_change old new from
-  answers_change from id a b e f h = (λ i. changed id (e i) (f i)) ∙ ap (change_at old new) h
-
-  pub answers_none : (from : ℕ) → none ≡ first_change old new from → unchanged ≡ next_change old new from
-  answers_none from h = ap (change_at old new) h
 
   -- ---- what it finds
 
@@ -68,7 +41,7 @@ module _ (old new : List ℕ) where
 
   pub found_first : (m from k : ℕ) → first_among old new from m ≡ some k → FirstBelow from k (from + m)
   unfolding first_among
-  found_first zero from k e = none_some k e
+  found_first zero from k e = cc
   found_first (suc m) from k e = here_or_later (found_first m (from + 1) k) (differs old new from) refl e
     where
       here_or_later : (first_among old new (from + 1) m ≡ some k → FirstBelow (from + 1) k (from + 1 + m)) → (t : Bool) → differs old new from ≡ t
@@ -111,13 +84,39 @@ module _ (old new : List ℕ) where
       alike_here : (first_among old new (from + 1) m ≡ none → (j : ℕ) → from + 1 ≤ j → j < from + 1 + m → differs old new j ≡ false)
           → (t : Bool) → differs old new from ≡ t
           → ◌≡◌ {A = Option ℕ} (elim t [ true ↦ some from | false ↦ first_among old new (from + 1) m ]) none → differs old new i ≡ false
-      alike_here ih true d e = none_some from (sym e)
+      alike_here ih true d e = cc
       alike_here ih false d e = elim (ℕ_discrete from i) [ yes f ↦ ap (differs old new) (sym f) ∙ d | no n ↦ ih e i (omega arith) (omega arith) ]
 
-  pub all_none : (m from : ℕ) → ((i : ℕ) → from ≤ i → differs old new i ≡ false) → first_among old new from m ≡ none
+  pub all_none : (m from : ℕ) → ((i : ℕ) → from ≤ i → i < from + m → differs old new i ≡ false) → first_among old new from m ≡ none
   unfolding first_among
   all_none zero from h = refl
-  all_none (suc m) from h = among_alike from m (h from (omega arith)) ∙ all_none m (from + 1) (λ i p. h i (omega arith))
+  all_none (suc m) from h =
+      among_alike from m (h from (omega arith) (omega arith)) ∙ all_none m (from + 1) (λ i p q. h i (omega arith) (omega arith))
+
+  -- ---- what the code answers: it looks for the first id that differs among those from `from` on below the bound
+
+  abbrev pub Looked : (from u : ℕ) → code.Option ℕ → Type 0
+  Looked from u r =
+      code.MatchOption r ((i : ℕ) → from ≤ i → i < u → differs old new i ≡ false)
+      (λ k. (from ≤ k) × (k < u) × (differs old new k ≡ true) × ((i : ℕ) → from ≤ i → i < k → differs old new i ≡ false))
+
+  pub answers_change : (from u id : ℕ) (r : code.Option ℕ) (a b : Naming) → Looked from u r → u ≡ upper old new → r ≡ code.Some id
+      → a ≡ naming old id → b ≡ naming new id → changed id a b ≡ next_change old new from
+  answers_change from u id r a b w e q f g =
+      let (p, below, unlike, alike) = rw q at w in
+      let first = first_found (u - from) from id (record { from_there = p; below = omega arith; unlike = unlike; alike_before = alike }) in
+      (λ i. changed id (f i) (g i)) ∙ ap (change_at old new) (sym first ∙ starts from u e)
+
+  pub answers_none : (from u : ℕ) (r : code.Option ℕ) → Looked from u r → u ≡ upper old new → r ≡ code.None
+      → unchanged ≡ next_change old new from
+  answers_none from u r w e q =
+      let alike = rw q at w in
+      ap (change_at old new) (sym (all_none (u - from) from (λ i p h. alike i p (omega arith))) ∙ starts from u e)
+
+  -- at the bound and above it there is none
+  pub answers_none_above : (from : ℕ) → upper old new ≤ from → unchanged ≡ next_change old new from
+  answers_none_above from h =
+      answers_none from (upper old new) code.None (λ i p q. absurd (omega arith)) refl refl
 
   -- ---- what repeated calls list
 

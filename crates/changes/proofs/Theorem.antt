@@ -49,7 +49,7 @@ module _ (old new : List ℕ) where
 
   none_back : (from : ℕ) → ((id : ℕ) → from ≤ id → name_given old id ≡ name_given new id) → first_change old new from ≡ none
   none_back from h =
-      sym (as_search from) ∙ search.all_none old new (u - from) from (λ i p. (alike_exactly old new i).1 (h i p))
+      sym (as_search from) ∙ search.all_none old new (u - from) from (λ i p q. (alike_exactly old new i).1 (h i p))
 
   among_sym : (m from : ℕ) → first_among new old from m ≡ first_among old new from m
   unfolding first_among

@@ -1,19 +1,16 @@
--- The answers' cases: the values of each case of the enums that the calls answer.
-use Rattle.std.specs.Prelude.{ℕ}
-use Rattle.std.proofs.Math.Option.{Option, none, some}
+-- The answers' cases: the values of each case of what the calls answer.
+use Rattle.std.specs.Prelude.{ℕ, Option, Some, None}
+use Rattle.std.proofs.Math.Option as math
 use Rattle.reader.specs.Cases.{naming_of}
 use Rattle.changes.specs.Changes as rule
 use Rattle.changes.specs.declared.Change.{Change}
-use Rattle.changes.specs.declared.Change.TheVariants as change
-use Rattle.changes.specs.declared.MovedTo.{MovedTo}
-use Rattle.changes.specs.declared.MovedTo.TheVariants as moved
 
 -- an id with both namings, or none
-abbrev pub change_of : Change → rule.Change
-change_of (change.At id before after) = rule.changed id (naming_of before) (naming_of after)
-change_of change.Nothing = rule.unchanged
+abbrev pub change_of : Option Change → rule.Change
+change_of (Some c) = rule.changed c.id (naming_of c.before) (naming_of c.after)
+change_of None = rule.unchanged
 
 -- the other id, or none
-abbrev pub moved_of : MovedTo → Option ℕ
-moved_of (moved.Other id) = some id
-moved_of moved.Nothing = none
+abbrev pub moved_of : Option ℕ → math.Option ℕ
+moved_of (Some id) = math.some id
+moved_of None = math.none

@@ -9,97 +9,62 @@ ghost use Rattle.reader.specs.Lookup.{lookup};
 
 use image::equality::same;
 use reader::id_walk::{iter, size_hint};
-use reader::{Named, ToId, to_str};
+use reader::{Place, name_given, to_id, to_str};
 
-// The next change: its id, and what the old and the new image name it; or none.
+// A change: an id, and the places of what the old and the new image name it, if they name it.
 #[derive(Clone, Copy)]
-pub enum Change {
-    At {
-        id: u32,
-        before: Named,
-        after: Named,
-    },
-    Nothing,
-}
-
-// Where an old name moved: to another id, or nowhere.
-#[derive(Clone, Copy)]
-pub enum MovedTo {
-    Other(u32),
-    Nothing,
+pub struct Change {
+    pub id: u32,
+    pub before: Option<Place>,
+    pub after: Option<Place>,
 }
 
 // The larger of the two upper hints at 0.
 fn upper(old: &[u8], new: &[u8]) -> u32
     ensures { result ≡ upper old.now new.now }
 {
-    let a = size_hint(old, iter());
-    let b = size_hint(new, iter());
-    if a < b { b } else { a }
+    size_hint(old, iter()).max(size_hint(new, iter()))
 }
 
 // Do the two images name the id differently?
 fn differs(old: &[u8], new: &[u8], id: u32) -> bool
     ensures { result ≡ differs old.now new.now id }
 {
-    match to_str(old, id) {
-        Named::Place { start, len } => match to_str(new, id) {
-            Named::Place {
-                start: from,
-                len: n,
-            } => { !same(&old[start..start + len], &new[from..from + n]) }
-            Named::Nothing => true,
-        },
-        Named::Nothing => match to_str(new, id) {
-            Named::Place { start, len } => true,
-            Named::Nothing => false,
-        },
+    match (name_given(old, id), name_given(new, id)) {
+        (Some(before), Some(after)) => !same(before, after),
+        (None, None) => false,
+        _ => true,
     }
 }
 
 // The first id from `from` on, below the larger of the two upper hints at 0, that the two images name differently.
-pub fn next_change(old: &[u8], new: &[u8], from: u64) -> Change
+pub fn next_change(old: &[u8], new: &[u8], from: u64) -> Option<Change>
     ensures { change_of result ≡ next_change old.now new.now from }
 {
     let end = upper(old, new);
-    if end as u64 <= from {
-        return Change::Nothing;
-    }
-    let mut id = from as u32;
-    while id < end {
-        if differs(old, new, id) {
-            return Change::At {
-                id,
-                before: to_str(old, id),
-                after: to_str(new, id),
-            };
-        }
-        id += 1;
-    }
-    Change::Nothing
+    let first = u32::try_from(from).ok()?;
+    let id = (first..end).find(|id| differs(old, new, *id))?;
+    Some(Change {
+        id,
+        before: to_str(old, id),
+        after: to_str(new, id),
+    })
 }
 
 // The id that the new image has for a name, where it is another than this one.
-fn other_id(new: &[u8], name: &[u8], id: u32) -> MovedTo
+fn other_id(new: &[u8], name: &[u8], id: u32) -> Option<u32>
     ensures { moved_of result ≡ other_id id (lookup new.now name.now) }
 {
-    match reader::to_id(new, name) {
-        ToId::Found(f) => {
-            if f.id == id {
-                return MovedTo::Nothing;
-            }
-            MovedTo::Other(f.id)
-        }
-        ToId::Nothing { buckets } => MovedTo::Nothing,
+    let hit = to_id(new, name).hit?;
+    if hit.id == id {
+        return None;
     }
+    Some(hit.id)
 }
 
 // Is the id's old name now another id's name, looked up in the new image? If so, that id.
-pub fn moved(old: &[u8], new: &[u8], id: u32) -> MovedTo
+pub fn moved(old: &[u8], new: &[u8], id: u32) -> Option<u32>
     ensures { moved_of result ≡ moved old.now new.now id }
 {
-    match to_str(old, id) {
-        Named::Place { start, len } => other_id(new, &old[start..start + len], id),
-        Named::Nothing => MovedTo::Nothing,
-    }
+    other_id(new, name_given(old, id)?, id)
 }

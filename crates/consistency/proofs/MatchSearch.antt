@@ -11,7 +11,8 @@ use Rattle.jhash.specs.NameHash.{hash_of}
 use Rattle.image.specs.Tables.{table_of, start, next, probe_sequence}
 use Rattle.image.specs.Head.{table_at, bucket_number}
 use Rattle.reader.specs.Lookup.{Probe, probe_bucket, unsearched}
-use Rattle.reader.specs.Naming.{place, unnamed, naming}
+use Rattle.std.proofs.Math.Option.{some, none}
+use Rattle.reader.specs.Naming.{Naming, place, unnamed, naming, bytes_at, name_given}
 use Rattle.consistency.specs.Matches.{Matches, ended, add_match, matches_along, matches_in, matches_by_hash, matches_of, any_match}
 use Rattle.consistency.specs.Home.{home_by, home}
 
@@ -88,14 +89,22 @@ matches_by image name id s l es el = sym (λ i. any_match id (cond (es i) (ended
 
 -- ---- by the name of an id
 
--- the home check, by the part of the image that is searched for
-pub home_by_lem : (image : List ℕ) (id s n : ℕ) → place s n ≡ naming image id → any_match id (matches_of image (take (s + n - s) (drop s image)))
-    ≡ home image id
-unfolding home
-home_by_lem image id s n e =
-    let k : s + n - s ≡ n = omega arith in
-    ap (λ (m : ℕ). any_match id (matches_of image (take m (drop s image)))) k ∙ ap (home_by image id) e
+home_by_named : (image : List ℕ) (id : ℕ) (name : List ℕ) (x : Naming) → some name ≡ bytes_at image x
+    → any_match id (matches_of image name) ≡ home_by image id x
+home_by_named image id name (place s n) e =
+    let same : name ≡ take n (drop s image) = cc in
+    ap (λ (l : List ℕ). any_match id (matches_of image l)) same
+home_by_named image id name unnamed e = let z : ◌≡◌ {A = ℕ} 0 1 = cc in absurd (omega arith)
 
-pub not_home : (image : List ℕ) (id : ℕ) → unnamed ≡ naming image id → false ≡ home image id
+home_by_unnamed : (image : List ℕ) (id : ℕ) (x : Naming) → none ≡ bytes_at image x → false ≡ home_by image id x
+home_by_unnamed image id (place s n) e = let z : ◌≡◌ {A = ℕ} 0 1 = cc in absurd (omega arith)
+home_by_unnamed image id unnamed e = refl
+
+-- the home check, by the name that the id gives
+pub home_named : (image : List ℕ) (id : ℕ) (name : List ℕ) → some name ≡ name_given image id → any_match id (matches_of image name) ≡ home image id
 unfolding home
-not_home image id e = ap (home_by image id) e
+home_named image id name e = home_by_named image id name (naming image id) e
+
+pub not_home : (image : List ℕ) (id : ℕ) → none ≡ name_given image id → false ≡ home image id
+unfolding home
+not_home image id e = home_by_unnamed image id (naming image id) e

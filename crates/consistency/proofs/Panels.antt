@@ -1,16 +1,19 @@
 -- The panel's reading, and the check of both readings, step by step. Assumes nothing.
-use Prim.Native.Nat.{ℕ, ◌+◌, ◌-◌, ◌≤◌, ◌<◌}
+use Prim.Native.Nat.{ℕ, zero, suc, ◌+◌, ◌-◌, ◌≤◌}
+use Rattle.std.proofs.Common.{add-one}
+use Rattle.std.specs.List.{list_all, range_with_len}
 use native.Mathlib.Omega.{arith}
 use mathlib.Core.Path.{◌≡◌, refl, sym, ap, ◌∙◌, subst}
-use mathlib.Core.Bool.{Bool, true, false, cond, not, ◌&&◌}
+use mathlib.Core.Bool.{Bool, true, false, not, ◌&&◌}
 use mathlib.Core.List.{List, []}
+use lib.Dec.{eqb}
+use borrow.Author.Tests.{eq-eqb, ne_eqb}
 use lib.ListN.{length, take, drop, length-take, length-drop}
 use lib.Seq.{take-take}
 use Rattle.image.specs.Bytes.{same, all}
 use Rattle.image.specs.Head.{back_size_at}
 use Rattle.image.specs.Zero.{has_zero, before_zero}
-use Rattle.image.proofs.Bools.{chose_first, chose_second}
-use Rattle.image.proofs.AllOfRange.{all_true, all_step}
+use Rattle.image.proofs.AllOfRange.{all_true}
 use Rattle.image.proofs.Zeros.{before_front, before_short, before_free, before_longest, before_all, before_less, readings_same}
 use Rattle.reader.specs.Naming.{Naming, place, unnamed, no_back, naming}
 use Rattle.consistency.specs.Panel.{cut_at_zero, panel, reading, agree_on, readings_agree}
@@ -42,19 +45,15 @@ module _ (image : List ℕ) (id : ℕ) where
     name_long inside = omega (arith, length-take n (drop s image), length-drop s image)
 
     module _ (inside : s + n ≤ length image) (r : ℕ) (er : r ≡ length (before_zero (take n (drop s image)))) where
-      pub agree_step_same : r ≡ n → id + 1 ≡ cond (agree_on image id) (id + 1) 0
-      agree_step_same h = same_without_zero (has_zero (take n (drop s image))) refl
+      pub agree_sized : eqb r n ≡ agree_on image id
+      agree_sized = sized_by_zero (has_zero (take n (drop s image))) refl
         where
-          same_without_zero : (z : Bool) → has_zero (take n (drop s image)) ≡ z → id + 1 ≡ cond (agree_on image id) (id + 1) 0
-          same_without_zero true q = let less = before_less (take n (drop s image)) q in let long = name_long inside in absurd (omega arith)
-          same_without_zero false q = ap (λ (t : Bool). cond t (id + 1) 0) (agree_named false (sym q))
-
-      pub agree_step_differs : (r ≡ n → ⊥) → 0 ≡ cond (agree_on image id) (id + 1) 0
-      agree_step_differs h = differs_with_zero (has_zero (take n (drop s image))) refl
-        where
-          differs_with_zero : (z : Bool) → has_zero (take n (drop s image)) ≡ z → 0 ≡ cond (agree_on image id) (id + 1) 0
-          differs_with_zero true q = ap (λ (t : Bool). cond t (id + 1) 0) (agree_named true (sym q))
-          differs_with_zero false q = absurd (h (er ∙ before_all (take n (drop s image)) q ∙ name_long inside))
+          sized_by_zero : (z : Bool) → has_zero (take n (drop s image)) ≡ z → eqb r n ≡ agree_on image id
+          sized_by_zero true q =
+              let less = before_less (take n (drop s image)) q in
+              let long = name_long inside in
+              ne_eqb r n (λ h. omega arith) ∙ agree_named true (sym q)
+          sized_by_zero false q = eq-eqb r n (er ∙ before_all (take n (drop s image)) q ∙ name_long inside) ∙ agree_named false (sym q)
 
   -- one that has none
   pub panel_unnamed : unnamed ≡ naming image id → unnamed ≡ panel image id
@@ -109,23 +108,6 @@ pub agree_without : (image : List ℕ) → no_back image ≡ true → readings_a
 unfolding readings_agree naming
 agree_without image h = all_true (agree_on image) 0 (back_size_at image) (λ i p. sym (agree_unnamed image (0 + i) (rw h refl)))
 
-module _ (image : List ℕ) (n id : ℕ) (less : id < n) where
-  pub disagree : agree_on image id ≡ false → all (agree_on image) id (n - id) ≡ false
-  disagree h = all_step (agree_on image) id n less ∙ ap (λ (b : Bool). b && all (agree_on image) (id + 1) (n - (id + 1))) h
-
-  pub agree_further : agree_on image id ≡ true → all (agree_on image) (id + 1) (n - (id + 1)) ≡ all (agree_on image) id (n - id)
-  agree_further h = sym (all_step (agree_on image) id n less ∙ ap (λ (b : Bool). b && all (agree_on image) (id + 1) (n - (id + 1))) h)
-
--- a look at an id gives the next id exactly where both readings agree on it, else 0
-pub agree_step_zero : (b : Bool) (id next : ℕ) → next ≡ cond b (id + 1) 0 → next ≡ 0 → b ≡ false
-agree_step_zero b id next e h = (chose_second b (id + 1) 0 0 (λ z. omega arith) (sym e ∙ h)).0
-
-pub agree_step_nonzero : (b : Bool) (id next : ℕ) → next ≡ cond b (id + 1) 0 → (next ≡ 0 → ⊥) → b ≡ true
-agree_step_nonzero b id next e h = (chose_first b (id + 1) 0 next (λ z. h (sym z)) (sym e)).0
-
-pub agree_step_next : (b : Bool) (id next : ℕ) → next ≡ cond b (id + 1) 0 → (next ≡ 0 → ⊥) → next ≡ id + 1
-agree_step_next b id next e h = sym (chose_first b (id + 1) 0 next (λ z. h (sym z)) (sym e)).1
-
 -- what the hint at id 0 leaves to look at
 pub agree_hinted : (image : List ℕ) (n : ℕ) → n ≡ upper_hint image 0 → all (agree_on image) 0 n ≡ readings_agree image
 unfolding upper_hint all readings_agree
@@ -147,7 +129,9 @@ agree_hinted image n e = agree_by_array (no_back image) refl
     agree_by_array true h = ap (all (agree_on image) 0) (none h) ∙ empty ∙ sym (agree_without image h)
     agree_by_array false h = ap (all (agree_on image) 0) (some h) ∙ full
 
--- and nothing is left
-pub agree_none : (image : List ℕ) (id : ℕ) → all (agree_on image) id 0 ≡ true
+-- a chain's test of the numbers from t on
+pub all_of_range : (test : ℕ → Bool) (m t : ℕ) → list_all test (range_with_len t m) ≡ all test t m
 unfolding all
-agree_none image id = refl
+all_of_range test zero t = refl
+all_of_range test (suc m) t =
+    ap (λ (b : Bool). test t && b) (all_of_range test m (t + 1) ∙ ap (λ (k : ℕ). all test k m) (add-one t))

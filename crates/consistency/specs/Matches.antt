@@ -6,7 +6,7 @@ use Rattle.image.specs.Tables.{table_of, start, probe_sequence}
 use Rattle.image.specs.Image.{head_size}
 use Rattle.image.specs.Head.{table_at, bucket_number}
 use Rattle.reader.specs.Lookup.{Lookup, found, nothing, Probe, pass, ends, hit, probe_bucket, unsearched}
-use Rattle.reader.specs.declared.Found.{Found}
+use Rattle.reader.specs.Lookup.{Found}
 
 -- the entries with this name that a search reads, in its order, each with its id, the buckets read up to it and its
 -- offset; after the last, the number of buckets that the search reads

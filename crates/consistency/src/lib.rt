@@ -7,7 +7,7 @@ ghost use Rattle.std.specs.Prelude.{◌≡◌};
 ghost use Rattle.consistency.specs.Home.{home};
 
 use matching::has_match;
-use reader::{Named, to_str};
+use reader::name_given;
 
 mod matching; // matching.rt: the search of the home check, past an equal name
 pub mod panel; // panel.rt: panel, panel_place, readings_agree
@@ -18,11 +18,8 @@ pub use panel::readings_agree;
 pub fn home(image: &[u8], id: u32) -> bool
     ensures { result ≡ home image.now id }
 {
-    match to_str(image, id) {
-        Named::Place { start, len } => {
-            let end = start + len;
-            has_match(image, &image[start..end], id)
-        }
-        Named::Nothing => false,
+    match name_given(image, id) {
+        Some(name) => has_match(image, name, id),
+        None => false,
     }
 }

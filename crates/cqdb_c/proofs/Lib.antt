@@ -2,5 +2,6 @@
 pub mod CCalls
 pub mod GrownCalls
 pub mod InPlace
+pub mod RecordRead
 pub mod ShortPlaces
 pub mod Sizes

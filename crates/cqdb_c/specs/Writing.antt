@@ -10,6 +10,7 @@ use Rattle.writer.specs.Close.{closing, after_close}
 use Rattle.writer.specs.declared.c_record.Record.{Record}
 use Rattle.writer.specs.Numbers.{valid_numbers, mode_of, repeats_of}
 use Rattle.writer.specs.CRecord.{record_of, CState, known_in, state_in, c_state_of}
+use Rattle.cqdb_c.specs.declared.writing.CloseAnswer.{CloseAnswer}
 use Rattle.jhash.specs.Refusals as refused
 
 -- C's writer, lent in place: the record's numbers (mode, repeats, entries, back size) and sizes (length, end), and
@@ -64,6 +65,10 @@ refusal_in (refusal k) = k
 abbrev pub size_in : Outcome ℕ → ℕ
 size_in (value n) = n
 size_in (refusal k) = 0
+
+-- both as C has them
+abbrev pub close_answer_of : Outcome ℕ → CloseAnswer
+close_answer_of d = record { refusal = refusal_in d; size = size_in d }
 
 unfoldable pub left_by_close : CState → CState
 left_by_close h = cond (known_in h) (c_state_of (after_close (state_in h))) h

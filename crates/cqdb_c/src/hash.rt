@@ -2,10 +2,8 @@
 ghost use Rattle.std.specs.Prelude.{◌≡◌};
 ghost use Rattle.cqdb_c.specs.Hash.{hash_answer};
 
-use jhash::Hashed;
-use jhash::refusals::NAME_TOO_LONG;
-
-// The refusal's number, 0 when accepted; the hash, 0 when refused.
+// The refusal's number, 0 when accepted; the hash, 0 when refused. The C interface: a struct of words in place of a
+// Result.
 #[repr(C)]
 #[derive(Clone, Copy)]
 pub struct HashAnswer {
@@ -18,14 +16,10 @@ pub struct HashAnswer {
 pub extern "C" fn cqdb_hash(name: &[u8], start: u32) -> HashAnswer
     ensures { result ≡ hash_answer name.now start }
 {
-    let h = jhash::jhash(name, start);
-    match h {
-        Hashed::Hash(x) => HashAnswer {
-            refusal: 0,
-            hash: x,
-        },
-        Hashed::Refused => HashAnswer {
-            refusal: NAME_TOO_LONG,
+    match jhash::jhash(name, start) {
+        Ok(hash) => HashAnswer { refusal: 0, hash },
+        Err(refusal) => HashAnswer {
+            refusal: u32::from(refusal),
             hash: 0,
         },
     }

@@ -7,11 +7,11 @@ ghost use Rattle.consistency.specs.Home.{home};
 ghost use Rattle.reader.specs.Cases.{naming_of};
 ghost use Rattle.cqdb_c.specs.ReadAnswers.{place_answer_of, one_if};
 
-use reader::{Iter, Named};
+use reader::{Iter, Place};
 
 // 1 and the place of the name in the image, its length and its first byte's offset; or three zeros. The length is
 // below 2^32, since it is an entry's length word minus 1; the offset may lie above. So the answer has 16 bytes, which
-// C hands back in two registers.
+// C hands back in two registers. The C interface: a struct of words in place of an Option.
 #[repr(C)]
 #[derive(Clone, Copy)]
 pub struct PlaceAnswer {
@@ -20,18 +20,18 @@ pub struct PlaceAnswer {
     pub start: u64,
 }
 
-// A place as C has it, where its length is below 2^32.
-fn place_answer(named: Named) -> PlaceAnswer
-    requires { length_in (naming_of named) < 4294967296 }
-    ensures { result ≡ place_answer_of (naming_of named) }
+// A place as C has it, where its length is below 2^32. No `From`, which has no `requires`.
+fn place_answer(place: Option<Place>) -> PlaceAnswer
+    requires { length_in (naming_of place) < 4294967296 }
+    ensures { result ≡ place_answer_of (naming_of place) }
 {
-    match named {
-        Named::Place { start, len } => PlaceAnswer {
+    match place {
+        Some(Place { start, len }) => PlaceAnswer {
             found: 1,
             len: len as u32,
             start: start as u64,
         },
-        Named::Nothing => PlaceAnswer {
+        None => PlaceAnswer {
             found: 0,
             len: 0,
             start: 0,
@@ -60,11 +60,7 @@ pub extern "C" fn cqdb_panel(image: &[u8], id: u32) -> PlaceAnswer
 pub extern "C" fn cqdb_readings_agree(image: &[u8]) -> u32
     ensures { result ≡ one_if (readings_agree image.now) }
 {
-    if consistency::readings_agree(image) {
-        1
-    } else {
-        0
-    }
+    u32::from(consistency::readings_agree(image))
 }
 
 // How many steps a walk that stands before the id `next` has left at most.
@@ -80,5 +76,5 @@ pub extern "C" fn cqdb_size_hint(image: &[u8], next: u32) -> u32
 pub extern "C" fn cqdb_home(image: &[u8], id: u32) -> u32
     ensures { result ≡ one_if (home image.now id) }
 {
-    if consistency::home(image, id) { 1 } else { 0 }
+    u32::from(consistency::home(image, id))
 }

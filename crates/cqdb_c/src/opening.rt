@@ -2,9 +2,8 @@
 ghost use Rattle.std.specs.Prelude.{◌≡◌};
 ghost use Rattle.cqdb_c.specs.ReadAnswers.{open_answer};
 
-use reader::Opened;
-
-// The refusal's number, 0 when accepted; the number of entries, 0 when refused.
+// The refusal's number, 0 when accepted; the number of entries, 0 when refused. The C interface: a struct of words in
+// place of a Result.
 #[repr(C)]
 #[derive(Clone, Copy)]
 pub struct OpenAnswer {
@@ -17,9 +16,11 @@ pub struct OpenAnswer {
 pub extern "C" fn cqdb_open(image: &[u8]) -> OpenAnswer
     ensures { result ≡ open_answer image.now }
 {
-    let opened = reader::open(image);
-    match opened {
-        Opened::Num(n) => OpenAnswer { refusal: 0, num: n },
-        Opened::Refused(k) => OpenAnswer { refusal: k, num: 0 },
+    match reader::open(image) {
+        Ok(num) => OpenAnswer { refusal: 0, num },
+        Err(refusal) => OpenAnswer {
+            refusal: u32::from(refusal),
+            num: 0,
+        },
     }
 }

@@ -2,20 +2,20 @@
 // lent, too. A record whose mode or choice of repeats is neither 0 nor 1 is no record of 01 and fits no buffer.
 ghost use Rattle.std.specs.Prelude.{◌≡◌, length};
 ghost use Rattle.writer.specs.Put.{entry_of};
-ghost use Rattle.writer.specs.Close.{closed_of};
+ghost use Rattle.jhash.specs.Outcome.{outcome_of};
 ghost use Rattle.writer.specs.CRecord.{record_in, lent_state};
 ghost use Rattle.cqdb_c.specs.Writing.{beginning_of, number_in, lent_writer, left_by_begin, put_number, left_by_put};
-ghost use Rattle.cqdb_c.specs.Writing.{closing_of, refusal_in, size_in, left_by_close};
+ghost use Rattle.cqdb_c.specs.Writing.{closing_of, refusal_in, size_in, left_by_close, close_answer_of};
 ghost use Rattle.cqdb_c.specs.Grown.{grown_number, record_grown};
 ghost use Rattle.cqdb_c.specs.SizeWith.{size_with};
 
-use jhash::refusals::UNFIT;
-use writer::c_record::{record_in, record_of, writer_of};
-use writer::numbers::{mode_of, repeats_of, valid_numbers};
-use writer::record::size_with;
-use writer::{Begun, Closed};
+use image::Mode;
+use jhash::refusals::{Refusal, refusal_number};
+use writer::c_record::{Record, record_in};
+use writer::{CQDBWriter, Repeats};
 
-// What close answers: the refusal's number, 0 when accepted; the image's size, 0 when refused.
+// What close answers: the refusal's number, 0 when accepted; the image's size, 0 when refused. The C interface: a
+// struct of words in place of a Result.
 #[repr(C)]
 #[derive(Clone, Copy)]
 pub struct CloseAnswer {
@@ -39,18 +39,20 @@ pub extern "C" fn cqdb_begin_parts(
         ≡ left_by_begin mode repeats (length buf.now)
         (lent_writer numbers.old sizes.old counts.old) }
 {
-    if !valid_numbers(mode, repeats) {
-        return UNFIT;
-    }
-    let begun = writer::begin(mode_of(mode), repeats_of(repeats), &mut *counts, buf);
-    match begun {
-        Begun::Fresh(w) => {
-            let fresh = record_of(w);
+    let Ok(mode) = Mode::try_from(mode) else {
+        return u32::from(Refusal::Unfit);
+    };
+    let Ok(repeats) = Repeats::try_from(repeats) else {
+        return u32::from(Refusal::Unfit);
+    };
+    match writer::begin(mode, repeats, counts, buf) {
+        Ok(w) => {
+            let fresh = Record::from(w);
             *numbers = [fresh.mode, fresh.repeats, fresh.entries, fresh.back];
             *sizes = [fresh.length, fresh.end];
             0
         }
-        Begun::Refused(k) => k,
+        Err(refusal) => u32::from(refusal),
     }
 }
 
@@ -74,35 +76,28 @@ pub extern "C" fn cqdb_put_parts(
         (lent_state numbers.old sizes.old counts.old buf.old)
         (entry_of name.now id) }
 {
-    let w = record_in(&*numbers, &*sizes);
-    if !valid_numbers(w.mode, w.repeats) {
-        return UNFIT;
-    }
-    let done = writer::put(writer_of(w), &mut *counts, &mut *buf, name, id);
-    let after = done.writer;
-    numbers[2] = after.entries;
-    numbers[3] = after.back;
-    sizes[1] = after.end;
-    done.refusal
+    let Ok(mut w) = CQDBWriter::try_from(record_in(&*numbers, &*sizes)) else {
+        return u32::from(Refusal::Unfit);
+    };
+    let done = w.put(counts, buf, name, id);
+    numbers[2] = w.entries;
+    numbers[3] = w.back;
+    sizes[1] = w.end;
+    refusal_number(done)
 }
 
-// The number of close's refusal.
-fn close_number(answer: Closed) -> u32
-    ensures { result ≡ refusal_in (closed_of answer) }
-{
-    match answer {
-        Closed::Size(_) => 0,
-        Closed::Refused(k) => k,
-    }
-}
+// What close answers, as numbers.
+impl From<Result<u32, Refusal>> for CloseAnswer {
+    ghost from_gives = { λ r a. a ≡ close_answer_of (outcome_of r) };
 
-// The size that close gives.
-fn close_size(answer: Closed) -> u32
-    ensures { result ≡ size_in (closed_of answer) }
-{
-    match answer {
-        Closed::Size(n) => n,
-        Closed::Refused(_) => 0,
+    fn from(closed: Result<u32, Refusal>) -> CloseAnswer {
+        match closed {
+            Ok(size) => CloseAnswer { refusal: 0, size },
+            Err(refusal) => CloseAnswer {
+                refusal: u32::from(refusal),
+                size: 0,
+            },
+        }
     }
 }
 
@@ -124,31 +119,17 @@ pub extern "C" fn cqdb_close_parts(
         ≡ left_by_close
         (lent_state numbers.now sizes.now counts.now buf.old) }
 {
-    let w = record_in(numbers, sizes);
-    if !valid_numbers(w.mode, w.repeats) {
-        return CloseAnswer {
-            refusal: UNFIT,
-            size: 0,
-        };
-    }
-    let record = writer_of(w);
+    let r = record_in(numbers, sizes);
+    let Ok(w) = CQDBWriter::try_from(r) else {
+        return CloseAnswer::from(Err(Refusal::Unfit));
+    };
     // Both branches make the same call. With a single one the back end of the compiler places the tests above before
     // the code that takes the stack; that code, for more than eight pages, overwrites a register that holds the mode.
     // tests/archive-parts looks for this in every function.
-    if w.mode == 0 {
-        let done = writer::close(record, counts, &mut *buf);
-        let answer = done.answer;
-        return CloseAnswer {
-            refusal: close_number(answer),
-            size: close_size(answer),
-        };
+    if r.mode == 0 {
+        return CloseAnswer::from(w.close(counts, buf));
     }
-    let done = writer::close(record, counts, &mut *buf);
-    let answer = done.answer;
-    CloseAnswer {
-        refusal: close_number(answer),
-        size: close_size(answer),
-    }
+    CloseAnswer::from(w.close(counts, buf))
 }
 
 // Takes the new length of a buffer that has grown; or refusal 2 where it has become shorter.
@@ -159,14 +140,12 @@ pub extern "C" fn cqdb_grown_parts(numbers: &[u32; 4], sizes: &mut [u64; 2], lon
         → record_in numbers.now sizes.new
         ≡ record_grown (record_in numbers.now sizes.old) longer }
 {
-    let w = record_in(numbers, &*sizes);
-    if !valid_numbers(w.mode, w.repeats) {
-        return UNFIT;
-    }
-    let done = writer::grown(writer_of(w), longer);
-    let after = done.writer;
-    sizes[0] = after.length;
-    done.refusal
+    let Ok(mut w) = CQDBWriter::try_from(record_in(numbers, &*sizes)) else {
+        return u32::from(Refusal::Unfit);
+    };
+    let done = w.grown(longer);
+    sizes[0] = w.length;
+    refusal_number(done)
 }
 
 // The finished size after a put of an id and a name of n bytes; the largest number where no image is as large.
@@ -179,12 +158,21 @@ pub extern "C" fn cqdb_size_with_parts(
 ) -> u64
     ensures { result ≡ size_with (record_in numbers.now sizes.now) n id }
 {
-    let w = record_in(numbers, sizes);
-    if 9223372036854775808 <= w.end {
+    let r = record_in(numbers, sizes);
+    if 9223372036854775808 <= r.end {
         return 18446744073709551615;
     }
     if 4294967295 <= n {
         return 18446744073709551615;
     }
-    size_with(writer_of(w), n, id)
+    // No mode or choice of repeats is refused here: every mode but 0 counts as one-way, and the choice changes no size.
+    let w = CQDBWriter {
+        mode: Mode::try_from(r.mode).unwrap_or(Mode::Oneway),
+        repeats: Repeats::On,
+        length: r.length,
+        end: r.end,
+        entries: r.entries,
+        back: r.back,
+    };
+    w.size_with(n, id)
 }

@@ -6,7 +6,7 @@ use borrow.Author.Tests.{lt-leb}
 use Rattle.image.specs.Bytes.{word}
 use Rattle.image.specs.Stored.{first_whole, between}
 use Rattle.image.specs.Steps.EntryLength.{whole_length}
-use Rattle.image.specs.Steps.Contracts.{WholeLengthPre, WholeLength, NameAtPre}
+use Rattle.image.specs.Steps.Contracts.{WholeLengthPre, NotWhole, WholeLength, NameAtPre}
 use Rattle.image.proofs.EntryArea.{whole_first}
 
 pub length_between : (buf : List ℕ) (at end : ℕ) → at ≤ end → end ≤ length buf → length (between buf at end) ≡ end - at
@@ -157,23 +157,22 @@ module _ {buf : List ℕ} {at end : ℕ} (pre : WholeLengthPre buf at end) where
   size : length (between buf at end) ≡ end - at
   size = length_between buf at end pre.from pre.inside
 
-  pub short_there : end - at < 8 → WholeLength buf at end 0
-  short_there e = let s = size in record { is = too_short (between buf at end) (omega arith); small = omega arith }
+  pub short_there : end - at < 8 → NotWhole buf at end
+  short_there e = let s = size in sym (too_short (between buf at end) (omega arith))
 
   module _ (e : 8 ≤ end - at) (n : ℕ) (q : n ≡ word buf (at + 4)) where
     length_there : word (between buf at end) 4 ≡ n
     length_there = word_between buf at end 4 (omega arith) ∙ sym q
 
-    pub none_there : n ≡ 0 → WholeLength buf at end 0
-    none_there z =
-        let s = size in record { is = no_length (between buf at end) (omega arith) (length_there ∙ z); small = omega arith }
+    pub none_there : n ≡ 0 → NotWhole buf at end
+    none_there z = let s = size in sym (no_length (between buf at end) (omega arith) (length_there ∙ z))
 
     module _ (z : n ≡ 0 → ⊥) where
-      pub cut_there : end - at < 8 + n → WholeLength buf at end 0
+      pub cut_there : end - at < 8 + n → NotWhole buf at end
       cut_there l =
           let s = size in
           let w = length_there in
-          record { is = cut (between buf at end) (omega arith) (omega arith) (omega arith); small = omega arith }
+          sym (cut (between buf at end) (omega arith) (omega arith) (omega arith))
 
       module _ (l : 8 + n ≤ end - at) where
         last_there : get_or (between buf at end) (7 + word (between buf at end) 4) 0 ≡ get_or buf (at + 7 + n) 0
@@ -183,14 +182,11 @@ module _ {buf : List ℕ} {at end : ℕ} (pre : WholeLengthPre buf at end) where
             ∙ get_d_between buf at end (7 + n) (omega arith)
             ∙ ap (λ (i : ℕ). get_or buf i 0) a
 
-        pub open_there : (get_or buf (at + 7 + n) 0 ≡ 0 → ⊥) → WholeLength buf at end 0
+        pub open_there : (get_or buf (at + 7 + n) 0 ≡ 0 → ⊥) → NotWhole buf at end
         open_there m =
             let s = size in
             let w = length_there in
-            record {
-              is = no_zero (between buf at end) (omega arith) (omega arith) (omega arith) (λ y. m (sym last_there ∙ y));
-              small = omega arith;
-            }
+            sym (no_zero (between buf at end) (omega arith) (omega arith) (omega arith) (λ y. m (sym last_there ∙ y)))
 
         pub whole_there : n < 4294967296 → get_or buf (at + 7 + n) 0 ≡ 0 → WholeLength buf at end n
         whole_there small m =
@@ -198,5 +194,14 @@ module _ {buf : List ℕ} {at end : ℕ} (pre : WholeLengthPre buf at end) where
             let w = length_there in
             record {
               is = sym w ∙ is_whole (between buf at end) (omega arith) (omega arith) (omega arith) (last_there ∙ m);
+              some = omega arith;
               small = small;
             }
+
+-- ---- what the length word of a whole entry tells
+module _ {buf : List ℕ} {at end n : ℕ} (pre : WholeLengthPre buf at end) (w : WholeLength buf at end n) where
+  pub whole_front : Front (between buf at end) n
+  whole_front = front (between buf at end) n w.is (λ z. omega (arith, w.some))
+
+  pub whole_room : EntryRoom buf at end n
+  whole_room = entry_room buf at end n pre.from pre.inside w.is (λ z. omega (arith, w.some))

@@ -206,3 +206,9 @@ walk_end buf end entries counts₀ at back counts k r =
           | yes e ↦ eq-eqb at end e ∙ sym (eq-eqb (end - at) 0 (omega arith))
           | no n ↦ ne_eqb at end n ∙ sym (ne_eqb (end - at) 0 (λ z. n (omega (arith, r.inside))))
         ]
+
+-- no entry is left, and the walk did not come to the end
+pub walk_past : (buf : List ℕ) (end entries : ℕ) (counts₀ : List ℕ) (at back : ℕ) (counts : List ℕ) → end ≤ length buf
+    → Rest buf end entries counts₀ at 0 back counts → (at ≡ end → ⊥) → whole entries (between buf 2072 end) ≡ false
+walk_past buf end entries counts₀ at back counts k r n =
+    sym (walk_end buf end entries counts₀ at back counts k r).0 ∙ ne_eqb at end n

@@ -1,33 +1,21 @@
 -- Zero bytes in a name, step by step; and what precedes the first of them. Assumes nothing.
 use Rattle.std.proofs.Common.{◌≡◌, ℕ, zero, suc, ◌+◌, ◌-◌, ◌<◌, ◌≤◌, Bool, true, false, cond, not, ◌&&◌, ◌||◌, eqb, ltb, List, [], ◌∷◌, ◌++◌, length, get_or}
-use Rattle.std.proofs.Common.{take, drop, sym, refl, ap, ◌∙◌, ap₂, add-one, arith, length-drop, take-append-drop, drop_of_length-le, take_all, drop-cons}
+use Rattle.std.proofs.Common.{take, drop, sym, refl, ap, ◌∙◌, ap₂, add-one, arith, length-drop, take-append-drop, take_all, drop-cons}
 use Rattle.std.proofs.Common.{drop-drop, take-add, le-ltb, lt-ltb, eq-eqb, ne_eqb}
+use Rattle.std.proofs.lemmas.Iterator.{index_from_first}
+use Rattle.std.specs.Prelude.{Option, MatchOption, unwrap_or}
+use Rattle.std.specs.List.{AllWithin, HoldsAt}
 use mathlib.Core.Bool.{or_assoc}
 use Rattle.image.specs.Bytes.{same}
 use Rattle.image.specs.Zero.{has_zero, before_zero}
 use Rattle.image.proofs.Bools.{false_not_true}
 
--- ---- the loops over a name, before byte i
+-- ---- the loop over a name, before byte i
 
 -- what is left has a zero byte exactly where the name has
 pub record ZeroInv (name : List ℕ) (i : ℕ) : Type 0 where
   pub inside : i ≤ length name
   pub rest : has_zero (drop i name) ≡ has_zero name
-
--- the bytes so far precede the first zero byte, and what is left continues them
-pub record BeforeInv (name : List ℕ) (i : ℕ) : Type 0 where
-  pub inside : i ≤ length name
-  pub rest : i + length (before_zero (drop i name)) ≡ length (before_zero name)
-
--- one byte at i, where j is the next
-module _ (s : List ℕ) (i j : ℕ) (e : i + 1 ≡ j) (p : i < length s) where
-  pub before_there : get_or s i 0 ≡ 0 → before_zero (drop i s) ≡ []
-  unfolding before_zero
-  before_there h = rw (drop-cons s i 0 p, eq-eqb (get_or s i 0) 0 h)
-
-  pub before_further : (get_or s i 0 ≡ 0 → ⊥) → length (before_zero (drop i s)) ≡ suc (length (before_zero (drop j s)))
-  unfolding before_zero
-  before_further h = rw (← e, add-one, drop-cons s i 0 p, ne_eqb (get_or s i 0) 0 h)
 
 -- two joined parts have a zero byte where one of them has
 zero_append : (a b : List ℕ) → has_zero (a ++ b) ≡ (has_zero a || has_zero b)
@@ -128,6 +116,11 @@ zero_overlap s j i p h =
     rest_decides a false true d true ed et eb = absurd (false_not_true eb)
     rest_decides a false false d true ed et eb = absurd (false_not_true (eb ∙ ed))
 
+-- the last eight bytes have none, and the question is left to bytes among them
+pub none_at_last : (s : List ℕ) (i : ℕ) → 8 ≤ length s → length s - 8 ≤ i → has_zero (take 8 (drop (length s - 8) s)) ≡ false
+    → has_zero (drop i s) ≡ has_zero s → false ≡ has_zero s
+none_at_last s i p q none rest = sym (sym (zero_last s 8 p) ∙ none) ∙ zero_overlap s (length s - 8) i q rest
+
 -- a name of k to 2 k bytes: its first k and its last k
 pub zero_ends : (s : List ℕ) (k : ℕ) (a b : Bool) → k ≤ length s → length s ≤ k + k → a ≡ has_zero (take k s) → b ≡ has_zero (take k (drop (length s - k) s))
     → (a || b) ≡ has_zero s
@@ -140,10 +133,18 @@ zero_ends s k a b p q ea eb = either_decides a ea
     either_decides true e = sym (parts true e)
     either_decides false e = eb ∙ zero_last s k p ∙ zero_overlap s (length s - k) k (omega arith) (sym (parts false e))
 
--- nothing is left to precede a zero byte
-pub before_none : (s : List ℕ) (i : ℕ) → length s ≤ i → length (before_zero (drop i s)) ≡ 0
+-- a name's reading ends where the search for its first zero byte does
+pub first_zero : (s : List ℕ) (r : Option ℕ)
+    → MatchOption r (AllWithin (λ x. x ≡ 0 → ⊥) s 0 (length s)) (λ i. (i < length s) × HoldsAt (λ x. x ≡ 0) s i × AllWithin (λ x. x ≡ 0 → ⊥) s 0 i)
+    → length (before_zero s) ≡ unwrap_or r (length s)
 unfolding before_zero
-before_none s i h = rw (drop_of_length-le s {i = i} h)
+first_zero s r = index_from_first (λ (l : List ℕ). length (before_zero l)) (λ x. x ≡ 0) (λ x. x ≡ 0 → ⊥) refl ends_there goes_on s r
+  where
+    ends_there : (x : ℕ) (xs : List ℕ) → x ≡ 0 → length (before_zero (x ∷ xs)) ≡ 0
+    ends_there x xs e = rw (eq-eqb x 0 e)
+
+    goes_on : (x : ℕ) (xs : List ℕ) → (x ≡ 0 → ⊥) → length (before_zero (x ∷ xs)) ≡ length (before_zero xs) + 1
+    goes_on x xs n = rw (ne_eqb x 0 n) (omega arith)
 
 -- the panel's reading is a front of the name, has no zero byte, and is the longest such front
 pub before_front : (s : List ℕ) → before_zero s ≡ take (length (before_zero s)) s

@@ -2,4 +2,3 @@
 pub mod EntryLength
 pub mod Contracts
 pub mod Walk
-pub mod NthName

@@ -1,12 +1,12 @@
 // The entries in some bytes: whether the one at a place is broken, or whole, its name, and a walk over them that counts
 // them by table and says whether one has a given name.
-ghost use Rattle.std.specs.Prelude.{◌≡◌, ◌<◌, max, slice_index};
+ghost use Rattle.std.specs.Prelude.{◌≡◌, ◌<◌, MatchOption, slice_index};
 ghost use Rattle.image.specs.Bytes.{same};
 ghost use Rattle.image.specs.Tables.{table_of};
 ghost use Rattle.image.specs.Stored.{broken};
 ghost use Rattle.image.specs.Tally.{raised_counts};
-ghost use Rattle.image.specs.Steps.Contracts.{LessOne, WholeLengthPre, WholeLength, NameAtPre, NameRead};
-ghost use Rattle.image.specs.Steps.Walk.{IsSoughtPre, WalkPre, WalkedEntries};
+ghost use Rattle.image.specs.Steps.Contracts.{LessOne, WholeLengthPre, NotWhole, WholeLength, NameAtPre, NameRead};
+ghost use Rattle.image.specs.Steps.Walk.{IsSoughtPre, WalkPre, NoneWalked, WalkedEntries};
 
 use super::HEAD_SIZE;
 use jhash::hash_or_zero;
@@ -16,7 +16,7 @@ use jhash::word::word;
 fn less_one(len: u32) -> u64
     ensures { LessOne len result }
 {
-    std::num::wrapping_sub_u64(len as u64, 1)
+    (len as u64).wrapping_sub(1)
 }
 
 // Does the entry at `at` reach past the end of the image, with its first 8 bytes or its name, or is its length word 0?
@@ -32,51 +32,40 @@ pub fn broken(image: &[u8], at: u32) -> bool
     (left as u64) < less_one(word(image, at as usize + 4))
 }
 
-// The larger of two numbers.
-pub fn larger(a: u64, b: u64) -> u64
-    ensures { result ≡ max a b }
-{
-    if a < b { b } else { a }
-}
-
 // One more in the table of a hash.
 pub fn raise(counts: &mut [u32; 256], h: u32)
     requires { slice_index counts.old (table_of h) < 4294967295 }
     ensures { counts.new ≡ raised_counts counts.old h }
 {
-    let t = (h % 256) as usize;
-    let c = counts[t];
-    counts[t] = c + 1;
+    counts[(h % 256) as usize] += 1;
 }
 
-// What a walk over the entries found: whether they are whole, their back size, and whether one has the name that was
-// sought.
+// What a walk over whole entries found: their back size, and whether one has the name that was sought.
 #[derive(Clone, Copy)]
 pub struct Walked {
-    pub whole: bool,
     pub back: u64,
     pub contains: bool,
 }
 
-// The length word of the entry at `at`, 0 where it is not whole before `end`.
-pub fn whole_length(buf: &[u8], at: usize, end: usize) -> usize
+// The length word of the entry at `at`, if it is whole before `end`. It is then not 0.
+pub fn whole_length(buf: &[u8], at: usize, end: usize) -> Option<usize>
     requires { WholeLengthPre buf.now at end }
-    ensures { WholeLength buf.now at end result }
+    ensures { MatchOption result (NotWhole buf.now at end) (WholeLength buf.now at end) }
 {
     if end - at < 8 {
-        return 0;
+        return None;
     }
     let n = word(buf, at + 4) as usize;
     if n == 0 {
-        return 0;
+        return None;
     }
     if end - at < 8 + n {
-        return 0;
+        return None;
     }
     if buf[at + 7 + n] != 0 {
-        return 0;
+        return None;
     }
-    n
+    Some(n)
 }
 
 // The name of the whole entry at `at`, whose length word is n.
@@ -100,36 +89,33 @@ fn is_sought(name: &[u8], h: u32, sought: &[u8], want: u32) -> bool
 }
 
 // Walks `entries` entries from 2,072 on, counts them by table and says whether one has the name that is sought. The
-// walk continues past that name, since a broken entry may follow.
-pub fn walk(buf: &[u8], end: usize, entries: u32, counts: &mut [u32; 256], sought: &[u8]) -> Walked
+// walk continues past that name, since a broken entry may follow; where one is broken, there is no answer.
+pub fn walk(
+    buf: &[u8],
+    end: usize,
+    entries: u32,
+    counts: &mut [u32; 256],
+    sought: &[u8],
+) -> Option<Walked>
     requires { WalkPre buf.now end counts.old }
-    ensures { WalkedEntries buf.now end entries sought.now counts.old counts.new result }
+    ensures { MatchOption result (NoneWalked buf.now end entries)
+        (WalkedEntries buf.now end entries sought.now counts.old counts.new) }
 {
     let mut at = HEAD_SIZE;
-    let mut left = entries;
     let mut back: u64 = 0;
     let mut contains = false;
     let want = hash_or_zero(sought);
-    while left > 0 {
-        let n = whole_length(buf, at, end);
-        if n == 0 {
-            return Walked {
-                whole: false,
-                back: 0,
-                contains: false,
-            };
-        }
+    for _ in 0..entries {
+        let n = whole_length(buf, at, end)?;
         let name = name_at(buf, at, n);
-        back = larger(back, word(buf, at) as u64 + 1);
+        back = back.max(word(buf, at) as u64 + 1);
         let h = hash_or_zero(name);
         raise(&mut *counts, h);
-        contains = contains | is_sought(name, h, sought, want);
+        contains |= is_sought(name, h, sought, want);
         at += 8 + n;
-        left -= 1;
     }
-    Walked {
-        whole: at == end,
-        back,
-        contains,
+    if at != end {
+        return None;
     }
+    Some(Walked { back, contains })
 }

@@ -13,17 +13,16 @@ fn word8(s: &[u8], at: usize) -> u64
     word(s, at) as u64 + word(s, at + 4) as u64 * 4294967296
 }
 
-// Are two byte strings of one length equal from `from` on?
+// Are two byte strings of one length equal from `from` on? By a loop: `==` of the two parts is a call, and a lookup of
+// 20 bytes takes a seventh more time.
 fn same_from(a: &[u8], b: &[u8], from: usize) -> bool
     requires { SameFromPre a.now b.now from }
     ensures { result ≡ same (drop from a.now) (drop from b.now) }
 {
-    let mut i = from;
-    while i < a.len() {
+    for i in from..a.len() {
         if a[i] != b[i] {
             return false;
         }
-        i += 1;
     }
     true
 }
@@ -42,7 +41,8 @@ fn same_last(a: &[u8], b: &[u8], from: usize) -> bool
     same_from(a, b, from + 4)
 }
 
-// Are two byte strings equal? They are compared eight bytes at a time, then four, and the last ones one by one.
+// Are two byte strings equal? They are compared eight bytes at a time, then four, and the last ones one by one. By `==`
+// names of 9 to 24 bytes take a tenth to two fifths more time, and by a `for` loop over the eights up to a third more.
 pub fn same(a: &[u8], b: &[u8]) -> bool
     ensures { result ≡ same a.now b.now }
 {

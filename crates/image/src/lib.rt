@@ -5,7 +5,6 @@
 ghost use Rattle.std.specs.Prelude.{◌≡◌, ◌<◌, length, slice_set};
 ghost use Rattle.std.proofs.lemmas.List.Edits.{sets};
 ghost use Rattle.image.specs.Bytes.{word, le32};
-ghost use Rattle.image.specs.Image.{flag_word};
 ghost use Rattle.image.specs.Steps.Contracts.{SizeRead};
 
 use jhash::word::{word, word_near_end};
@@ -14,10 +13,10 @@ use store::store_word;
 pub mod entries; // entries.rt: broken entries, whole ones, and a walk over them
 pub mod equality; // equality.rt: same
 pub mod head; // head.rt: where the words of the head stand
+mod numbers; // numbers.rt: the number of a mode
 pub mod packed; // packed.rt: packed names
 pub mod probe; // probe.rt: the probe sequence of a search
-pub mod rows; // rows.rt: the row of a hash's table in the head
-pub mod scratch; // scratch.rt: clear_words
+pub mod rows; // rows.rt: the rows of the head
 pub mod store; // store.rt: words and bytes stored inside a buffer
 pub mod zero; // zero.rt: zero bytes in a name
 
@@ -31,20 +30,10 @@ pub const HEAD_SIZE_64: u64 = HEAD_SIZE as u64;
 pub const BYTEORDER_CHECK: u32 = 0x62445371;
 
 // The writer's mode (`Flag` of cqdb-rs, NONE and ONEWAY): a one-way image has no back array.
-#[derive(Clone, Copy)]
+#[derive(Clone, Copy, Debug, PartialEq, Eq)]
 pub enum Mode {
     Twoway,
     Oneway,
-}
-
-// The flag word of a mode.
-pub fn flag_word(mode: Mode) -> u32
-    ensures { result ≡ flag_word mode }
-{
-    match mode {
-        Mode::Twoway => 0,
-        Mode::Oneway => 1,
-    }
 }
 
 // The little-endian word at `at`; bytes past the end count as 0.

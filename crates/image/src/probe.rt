@@ -36,13 +36,11 @@ pub fn first_empty_before(buf: &[u8], o: usize, n: usize, k: usize, before: u64)
     ensures { BucketIs (first_empty_before buf.now o n k before) n result }
 {
     let mut i = k;
-    let mut left = n;
-    while left > 0 {
+    for _ in 0..n {
         if hide(before, word(buf, o + 8 * i + 4)) == 0 {
             return i;
         }
         i = next(i, n);
-        left -= 1;
     }
     0
 }

@@ -1,21 +1,27 @@
-// The row of a hash's table in the head: the table's offset and its number of buckets.
-ghost use Rattle.std.specs.Prelude.{◌+◌, ◌*◌};
-ghost use Rattle.image.specs.Tables.{table_of};
+// The rows of the head: where each table is, and how many buckets it has.
+ghost use Rattle.std.specs.Prelude.{◌+◌, ◌*◌, ◌<◌};
 ghost use Rattle.image.specs.Steps.Contracts.{SizeRead};
 
 use super::head::{BUCKET_NUMBERS_AT, ROW_SIZE, TABLE_OFFSETS_AT};
 use super::size_or_zero;
 
-// The offset of a hash's table.
-pub fn table_at(buf: &[u8], h: u32) -> usize
-    ensures { SizeRead buf.now (24 + 8 * table_of h) result }
-{
-    size_or_zero(buf, TABLE_OFFSETS_AT + ROW_SIZE * ((h % 256) as usize))
+// A row: the table's offset and its number of buckets, each 0 where the buffer ends before it.
+#[derive(Clone, Copy)]
+pub struct Row {
+    pub offset: usize,
+    pub buckets: usize,
 }
 
-// The number of buckets of a hash's table.
-pub fn bucket_number(buf: &[u8], h: u32) -> usize
-    ensures { SizeRead buf.now (28 + 8 * table_of h) result }
-{
-    size_or_zero(buf, BUCKET_NUMBERS_AT + ROW_SIZE * ((h % 256) as usize))
+impl Row {
+    // The row of table t.
+    pub fn of(buf: &[u8], t: usize) -> Row
+        requires { t < 256 }
+        ensures offset { SizeRead buf.now (24 + 8 * t) result.offset }
+        ensures buckets { SizeRead buf.now (28 + 8 * t) result.buckets }
+    {
+        Row {
+            offset: size_or_zero(buf, TABLE_OFFSETS_AT + ROW_SIZE * t),
+            buckets: size_or_zero(buf, BUCKET_NUMBERS_AT + ROW_SIZE * t),
+        }
+    }
 }

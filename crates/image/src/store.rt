@@ -15,14 +15,12 @@ pub fn store_word(buf: &mut [u8], at: usize, v: u32)
     buf[at + 3] = (v / 16777216 % 256) as u8;
 }
 
-// The bytes of src stored from `at` on.
+// The bytes of src stored from `at` on. By copy_from_slice the archive would call memmove, which nothing proves.
 pub fn store_bytes(buf: &mut [u8], at: usize, src: &[u8])
     requires { at + length src.now ≤ length buf.old }
     ensures { buf.new ≡ sets buf.old at src.now }
 {
-    let mut j = 0;
-    while j < src.len() {
-        buf[at + j] = src[j];
-        j += 1;
+    for (j, b) in src.iter().enumerate() {
+        buf[at + j] = *b;
     }
 }

@@ -42,12 +42,10 @@ pub fn has_zero(name: &[u8]) -> bool
     if zero_in_eight(name, 0) | zero_in_eight(name, last) {
         return true;
     }
-    let mut i: usize = 8;
-    while i < last {
+    for i in (8..last).step_by(8) {
         if zero_in_eight(name, i) {
             return true;
         }
-        i += 8;
     }
     false
 }
@@ -56,12 +54,5 @@ pub fn has_zero(name: &[u8]) -> bool
 pub fn length_before_zero(name: &[u8]) -> usize
     ensures { LengthBeforeZero name.now result }
 {
-    let mut i: usize = 0;
-    while i < name.len() {
-        if name[i] == 0 {
-            return i;
-        }
-        i += 1;
-    }
-    i
+    name.iter().position(|b| *b == 0).unwrap_or(name.len())
 }

@@ -51,15 +51,15 @@ pub record EntryRead (buf : List ℕ) (at end n : ℕ) (name : List ℕ) (h : �
   pub hash : h ≡ hash_of name
 
 module _ {buf : List ℕ} {end entries : ℕ} {words₀ : List ℕ} (pre : FillPre buf end entries words₀) where
-  pub filling_start : Filling buf end entries words₀ 2072 entries words₀
+  pub filling_start : {left : ℕ} → left ≡ entries → Filling buf end entries words₀ 2072 left words₀
   unfolding entries_size filled insert_all placed
-  filling_start =
+  filling_start all =
       record {
         inside = pre.low;
-        entire = pre.entire;
+        entire = ap (λ (q : ℕ). whole q (between buf 2072 end)) all ∙ pre.entire;
         done = [];
-        split = refl;
-        number = omega arith;
+        split = sym (ap (λ (q : ℕ). entries_in q (between buf 2072 end)) all);
+        number = omega (arith, all);
         place = omega arith;
         slots =
             record {
@@ -75,17 +75,17 @@ module _ {buf : List ℕ} {end entries : ℕ} {words₀ : List ℕ} (pre : FillP
     l = omega arith
 
     -- the entry is whole
-    pub not_broken : (n : ℕ) → n ≡ whole_length (between buf at end) → n ≡ 0 → ⊥
+    pub not_broken : whole_length (between buf at end) ≡ 0 → ⊥
     unfolding whole
-    not_broken n e z =
+    not_broken z =
         false_not_true
-        (sym (ap (λ (b : Bool). b && whole (left - 1) (after_first (between buf at end))) (not_whole (between buf at end) (sym z ∙ e)))
+        (sym (ap (λ (b : Bool). b && whole (left - 1) (after_first (between buf at end))) (not_whole (between buf at end) (sym z)))
         ∙ sym (ap (λ (q : ℕ). whole q (between buf at end)) l)
         ∙ f.entire)
 
     -- a slot is empty, and the probe ends at the first one
-    pub empty_slot : (k h : ℕ) → k ≡ probe_slots words h never → (k < slot_count words) × (k ≡ first_empty_slot words h)
-    empty_slot k h e = let o = not_full (result words h never) in (omega (arith, e, o.below), e ∙ o.is)
+    pub empty_slot : (k h : ℕ) → probe_slots words h never ≡ k → (k < slot_count words) × (k ≡ first_empty_slot words h)
+    empty_slot k h e = let o = not_full (result words h never) in (omega (arith, e, o.below), sym e ∙ o.is)
       where
         fewer : length (entry_buckets f.done) < slot_count words
         fewer = omega (arith, pre.capacity, f.number, f.long, more, length_buckets f.done)
@@ -98,7 +98,7 @@ module _ {buf : List ℕ} {end entries : ℕ} {words₀ : List ℕ} (pre : FillP
 
     module _ {n : ℕ} {name : List ℕ} {h : ℕ} (x : EntryRead buf at end n name h) where
       fr : Front (between buf at end) n
-      fr = front (between buf at end) n x.is (not_broken n x.is)
+      fr = front (between buf at end) n x.is (λ z. not_broken (sym x.is ∙ z))
 
       abbrev first : Entry
       first = first_entry (between buf at end)
@@ -109,7 +109,7 @@ module _ {buf : List ℕ} {end entries : ℕ} {words₀ : List ℕ} (pre : FillP
       size_is : entry_size (first_entry (between buf at end)) ≡ 8 + n
       size_is = omega (arith, ap length is_name_lem, x.sized, fr.some)
 
-      slots_more : {k : ℕ} → k ≡ probe_slots words h never
+      slots_more : {k : ℕ} → probe_slots words h never ≡ k
           → FilledWith (slot_stored words k h at) (entry_buckets (f.done ++ (first_entry (between buf at end) ∷ [])))
       slots_more {k} e =
           subst (FilledWith (slot_stored words k h at))
@@ -117,9 +117,9 @@ module _ {buf : List ℕ} {end entries : ℕ} {words₀ : List ℕ} (pre : FillP
           ∙ sym (buckets_snoc f.done first))
           (filled_stored words f.slots (record { hash = h; at = at }) k (empty_slot k h e).0 (empty_slot k h e).1)
 
-      pub filling_turn : {k : ℕ} → k ≡ probe_slots words h never → Filling buf end entries words₀ (at + (8 + n)) (left - 1) (slot_stored words k h at)
+      turn : {k : ℕ} → probe_slots words h never ≡ k → Filling buf end entries words₀ (at + (8 + n)) (left - 1) (slot_stored words k h at)
       unfolding entries_size
-      filling_turn {k} e =
+      turn {k} e =
           record {
             inside = omega (arith, fr.inside, length_between buf at end f.inside pre.inside, f.inside);
             entire =
@@ -145,6 +145,12 @@ module _ {buf : List ℕ} {end entries : ℕ} {words₀ : List ℕ} (pre : FillP
           one_size : entries_size (first_entry (between buf at end) ∷ []) ≡ entry_size (first_entry (between buf at end)) + 0
           one_size = refl
 
+      pub filling_turn : {k left' : ℕ} {words' : List ℕ} → probe_slots words h never ≡ k → left' ≡ left - 1 → words' ≡ slot_stored words k h at
+          → Filling buf end entries words₀ (at + (8 + n)) left' words'
+      filling_turn {k} {left'} e fewer to =
+          subst (Filling buf end entries words₀ (at + (8 + n)) left') (sym to)
+          (subst (λ (q : ℕ). Filling buf end entries words₀ (at + (8 + n)) q (slot_stored words k h at)) (sym fewer) (turn e))
+
   -- no entry is left
   pub filling_end : {at left : ℕ} {words : List ℕ} → Filling buf end entries words₀ at left words → left ≡ 0 → SlotsFilled buf end entries words₀ words
   unfolding entries_in
@@ -164,9 +170,9 @@ module _ (s : State) (words : List ℕ) where
   unchanged : {k : ℕ} → k ≡ index_refusal s words → (k ≡ 0 → ⊥) → Indexed s words k words
   unchanged is some = record { answer = is; refused = λ z. refl; right = λ z. absurd (some z); long = refl; last = λ i h. refl }
 
-  pub index_refused : (r : ℕ) → r ≡ close_refusal s → (r ≡ 0 → ⊥) → Indexed s words r words
+  pub index_refused : {r : ℕ} → r ≡ close_refusal s → (r ≡ 0 → ⊥) → Indexed s words r words
   unfolding index_refusal
-  index_refused r answer some = unchanged (rw (ne_eqb (close_refusal s) 0 (λ z. some (answer ∙ z))) answer) some
+  index_refused answer some = unchanged (rw (ne_eqb (close_refusal s) 0 (λ z. some (answer ∙ z))) answer) some
 
   module _ (closes : close_refusal s ≡ 0) where
     pub index_full : slot_count words < s.writer.entries → Indexed s words 24 words

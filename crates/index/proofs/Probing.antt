@@ -3,7 +3,7 @@ use Prim.Native.Nat.{ℕ, zero, suc, ◌+◌, ◌-◌, ◌/◌, ◌<◌}
 use native.Mathlib.Omega.{arith}
 use native.Mathlib.Decide.{ℕ_discrete}
 use native.Mathlib.Nat.{mod-lt}
-use mathlib.Core.Path.{◌≡◌, refl, sym, ap, ◌∙◌}
+use mathlib.Core.Path.{◌≡◌, refl, sym, ap, ap₂, ◌∙◌}
 use mathlib.Core.Bool.{Bool, true, false, cond, ◌&&◌, and-false}
 use mathlib.Core.List.{List, [], ◌∷◌}
 use mathlib.Core.Logic.{◌⊎◌, inl, inr}
@@ -15,22 +15,28 @@ use Rattle.image.proofs.AllOfList.{All}
 use Rattle.lookup_laws.specs.Steps.HasMatch.{has_match}
 use Rattle.lookup_laws.proofs.TableContents.{NotEmpty}
 use Rattle.index.specs.Index.{slot_count, slot_at, slot_sequence, first_empty_slot}
+use Rattle.image.specs.Steps.Contracts.{BucketIs}
 use Rattle.index.specs.Probe.{probe_along, probe_slots}
+use Rattle.index.specs.Steps.Probed.{SlotProbed}
 
 -- the rest of the probe sequence, `left` slots from slot k on, gives the result of the whole
 pub record Rest (words : List ℕ) (h : ℕ) (v : ℕ → Bool) (left k : ℕ) : Type 0 where
   pub inside : k < slot_count words
   pub rest : probe_along (slot_count words) (slot_at words) h v (probe_sequence (slot_count words) left k) ≡ probe_slots words h v
 
-pub rest_start : (words : List ℕ) (h : ℕ) (v : ℕ → Bool) → 0 < slot_count words
-    → Rest words h v (slot_count words) (start h (slot_count words))
-rest_start words h v some = record { inside = mod-lt (h / 256) some; rest = refl }
+pub rest_start : (words : List ℕ) (h : ℕ) (v : ℕ → Bool) {left k : ℕ} → left ≡ slot_count words
+    → BucketIs (start h (slot_count words)) (slot_count words) k → Rest words h v left k
+rest_start words h v all at =
+    record {
+      inside = at.inside;
+      rest = ap₂ (λ (n i : ℕ). probe_along (slot_count words) (slot_at words) h v (probe_sequence (slot_count words) n i)) all at.is;
+    }
 
-pub probe_none : (words : List ℕ) (h : ℕ) (v : ℕ → Bool) → slot_count words ≡ 0 → 0 ≡ probe_slots words h v
+pub probe_none : (words : List ℕ) (h : ℕ) (v : ℕ → Bool) → slot_count words ≡ 0 → probe_slots words h v ≡ slot_count words
 unfolding probe_along probe_sequence
 probe_none words h v z =
     let m = slot_count words in
-    sym (ap (λ (n : ℕ). probe_along m (slot_at words) h v (probe_sequence m n (start h m))) z ∙ z)
+    ap (λ (n : ℕ). probe_along m (slot_at words) h v (probe_sequence m n (start h m))) z
 
 module _ {words : List ℕ} {h : ℕ} {v : ℕ → Bool} {left k : ℕ} (s : Rest words h v left k) where
   abbrev m : ℕ
@@ -39,9 +45,9 @@ module _ {words : List ℕ} {h : ℕ} {v : ℕ → Bool} {left k : ℕ} (s : Res
   abbrev b : Bucket
   b = slot_at words k
 
-  pub rest_end : left ≡ 0 → slot_count words ≡ probe_slots words h v
+  pub rest_end : left ≡ 0 → probe_slots words h v ≡ slot_count words
   unfolding probe_along probe_sequence
-  rest_end z = ap (λ (n : ℕ). probe_along m (slot_at words) h v (probe_sequence m n k)) (sym z) ∙ s.rest
+  rest_end z = sym s.rest ∙ ap (λ (n : ℕ). probe_along m (slot_at words) h v (probe_sequence m n k)) z
 
   module _ (more : 0 < left) where
     later : ℕ
@@ -51,28 +57,32 @@ module _ {words : List ℕ} {h : ℕ} {v : ℕ → Bool} {left k : ℕ} (s : Res
     unfolding probe_along later
     turn = sym (ap (probe_along m (slot_at words) h v) (probe_sequence_step m left k more)) ∙ s.rest
 
-    pub rest_empty : (slot_at words k).at ≡ 0 → k ≡ probe_slots words h v
+    pub rest_empty : (slot_at words k).at ≡ 0 → SlotProbed (slot_count words) (probe_slots words h v) k
     rest_empty z =
-        sym (ap (λ (t : Bool). cond t k (cond (eqb b.hash h && v b.at) (m + 1) later)) (eq-eqb b.at 0 z)) ∙ turn
+        record {
+          below = s.inside;
+          is = sym turn ∙ ap (λ (t : Bool). cond t k (cond (eqb b.hash h && v b.at) (m + 1) later)) (eq-eqb b.at 0 z);
+        }
 
     passed : NotEmpty b → cond (eqb b.hash h && v b.at) (m + 1) later ≡ probe_slots words h v
     passed full =
         sym (ap (λ (t : Bool). cond t k (cond (eqb b.hash h && v b.at) (m + 1) later)) (ne_eqb b.at 0 full)) ∙ turn
 
     pub rest_match : NotEmpty (slot_at words k) → (slot_at words k).hash ≡ h → v (slot_at words k).at ≡ true
-        → slot_count words + 1 ≡ probe_slots words h v
+        → probe_slots words h v ≡ slot_count words + 1
     rest_match full e t =
-        sym (ap (λ (x : Bool). cond (x && v b.at) (m + 1) later) (eq-eqb b.hash h e) ∙ ap (λ (x : Bool). cond x (m + 1) later) t)
-        ∙ passed full
+        sym (passed full)
+        ∙ ap (λ (x : Bool). cond (x && v b.at) (m + 1) later) (eq-eqb b.hash h e) ∙ ap (λ (x : Bool). cond x (m + 1) later) t
 
     pub rest_next : NotEmpty (slot_at words k) → ((slot_at words k).hash ≡ h → v (slot_at words k).at ≡ false)
-        → (k' : ℕ) → k' ≡ next (slot_count words) k → k' < slot_count words → Rest words h v (left - 1) k'
+        → {left' k' : ℕ} → left' ≡ left - 1 → BucketIs (next (slot_count words) k) (slot_count words) k'
+        → Rest words h v left' k'
     unfolding later
-    rest_next full other k' e below =
+    rest_next full other {left'} {k'} fewer to =
         record {
-          inside = below;
+          inside = to.inside;
           rest =
-              ap (λ (i : ℕ). probe_along m (slot_at words) h v (probe_sequence m (left - 1) i)) e
+              ap₂ (λ (n i : ℕ). probe_along m (slot_at words) h v (probe_sequence m n i)) fewer to.is
               ∙ sym (ap (λ (x : Bool). cond x (m + 1) later) (no_match (ℕ_discrete b.hash h)))
               ∙ passed full;
         }

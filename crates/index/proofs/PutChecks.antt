@@ -5,6 +5,7 @@ use native.Mathlib.Decide.{ℕ_discrete}
 use mathlib.Core.Path.{◌≡◌, refl, sym, ap, ◌∙◌}
 use mathlib.Core.Bool.{Bool, true, false, cond, not}
 use mathlib.Core.List.{List}
+use Rattle.std.specs.Prelude.{Option, Some, None, is_some, Ok}
 use borrow.Author.Tests.{eq-eqb, ne_eqb, lt-ltb, le-ltb, ltb-false}
 use lib.Dec.{eqb, ltb}
 use lib.ListN.{length, take, get_or}
@@ -19,11 +20,11 @@ use Rattle.writer.specs.Put.{writer_after_put}
 use Rattle.writer.specs.Steps.Storing.{AppendPre}
 use Rattle.writer.proofs.Fits.{not_too_large, InBuffer, buffer_of}
 use Rattle.writer.proofs.Closes.{accepted}
-use Rattle.index.specs.declared.Decision.{Decision}
-use Rattle.index.specs.Index.{slot_count, first_empty_slot, seeks}
+use Rattle.index.specs.Steps.Probed.{Probed, NameProbed}
+use Rattle.index.specs.Index.{slot_count, seeks}
 use Rattle.index.specs.Probe.{has_name_at}
 use Rattle.index.specs.Refusals.{early_of, late_of, probed_for, refusal_after, refusal_by_slots, early_refusal, late_refusal}
-use Rattle.index.specs.Steps.Decided.{WithoutSlot, InBounds, Decided}
+use Rattle.index.specs.Steps.Decided.{SlotTaken, Decided}
 use Rattle.index.proofs.Probing.{probe_first}
 
 -- ---- what a check that is passed says
@@ -94,16 +95,13 @@ module _ (s : State) (words : List ℕ) (e : Entry) where
   abbrev late : ℕ
   late = late_of s e
 
-  abbrev first : ℕ
-  first = first_empty_slot words (hash_of e.name)
-
   pub slots_early : (early_of s e ≡ 0 → ⊥) → early_of s e ≡ refusal_by_slots s words e
   unfolding refusal_by_slots
   slots_early some = rw (ne_eqb (early_of s e) 0 some) refl
 
-  -- r is the result of the search, or the number of slots where no name is sought
-  module _ (passed : early_of s e ≡ 0) {r : ℕ} (is : r ≡ cond (seeks s) (probed_for s words e) (slot_count words)) where
-    behind : cond (ltb m r) 16 (cond (eqb late 0) (cond (eqb r m) (cond (seeks s) 24 0) 0) late) ≡ refusal_by_slots s words e
+  -- p is the number of the search, or that of the slots where no name is sought; r is the code's answer
+  module _ (passed : early_of s e ≡ 0) {p : ℕ} (is : p ≡ cond (seeks s) (probed_for s words e) (slot_count words)) where
+    behind : cond (ltb m p) 16 (cond (eqb late 0) (cond (eqb p m) (cond (seeks s) 24 0) 0) late) ≡ refusal_by_slots s words e
     unfolding refusal_by_slots
     behind = rw (eq-eqb (early_of s e) 0 passed) (by_choice (seeks s) is)
       where
@@ -111,47 +109,63 @@ module _ (s : State) (words : List ℕ) (e : Entry) where
         zero_or (yes z) = rw (eq-eqb late 0 z) (sym z)
         zero_or (no z) = rw (ne_eqb late 0 z) refl
 
-        by_choice : (b : Bool) → r ≡ cond b k m
-            → cond (ltb m r) 16 (cond (eqb late 0) (cond (eqb r m) (cond b 24 0) 0) late) ≡ cond b (refusal_after s words e k) late
+        by_choice : (b : Bool) → p ≡ cond b k m
+            → cond (ltb m p) 16 (cond (eqb late 0) (cond (eqb p m) (cond b 24 0) 0) late) ≡ cond b (refusal_after s words e k) late
         by_choice true at = ap (refusal_after s words e) at
-        by_choice false at = rw (le-ltb m r (omega (arith, at)), eq-eqb r m at) (zero_or (ℕ_discrete late 0))
+        by_choice false at = rw (le-ltb m p (omega (arith, at)), eq-eqb p m at) (zero_or (ℕ_discrete late 0))
 
-    pub search_duplicate : slot_count words < r → 16 ≡ refusal_by_slots s words e
-    search_duplicate l = rw (lt-ltb m r l) at behind
+    -- an entry has the name
+    pub search_duplicate : {refusal : ℕ} → NameProbed (slot_count words) p refusal → refusal ≡ refusal_by_slots s words e
+    search_duplicate met = met.number ∙ (rw (lt-ltb m p (omega (arith, met.is))) at behind)
 
-    module _ (new : r ≤ slot_count words) where
+    -- none has it
+    new_name : (r : Option ℕ) → Probed (slot_count words) p (Ok r) → p ≤ slot_count words
+    new_name None at = omega (arith, at)
+    new_name (Some i) at = omega (arith, at.is, at.below)
+
+    module _ (r : Option ℕ) (at : Probed (slot_count words) p (Ok r)) where
       pub search_late : (late_of s e ≡ 0 → ⊥) → late_of s e ≡ refusal_by_slots s words e
-      search_late some = rw (le-ltb m r new, ne_eqb late 0 some) at behind
+      search_late some = rw (le-ltb m p (new_name r at), ne_eqb late 0 some) at behind
 
       module _ (none : late_of s e ≡ 0) where
-        number_is : cond (eqb r m) (cond (seeks s) 24 0) 0 ≡ refusal_by_slots s words e
-        number_is = rw (le-ltb m r new, eq-eqb late 0 none) at behind
+        number_is : cond (eqb p m) (cond (seeks s) 24 0) 0 ≡ refusal_by_slots s words e
+        number_is = rw (le-ltb m p (new_name r at), eq-eqb late 0 none) at behind
 
-        -- a slot below their number is the first empty one, and is found by a search alone
-        pub search_slot : {h : ℕ} {d : Decision} → AppendPre s e h → r < slot_count words → d.refusal ≡ 0 → d.slot ≡ r → Decided s words e h d
-        search_slot stores below accepted slot =
-            record {
-              number = accepted ∙ (rw (ne_eqb r m (λ z. omega (arith, z, below))) at number_is);
-              bounds = λ z. record { inside = λ off. omega (arith, slot, below); slot = slot ∙ by_choice (seeks s) is; stores = stores };
-            }
-          where
-            by_choice : (b : Bool) → r ≡ cond b k m → r ≡ cond b first m
-            by_choice true at =
-                at ∙ probe_first words (hash_of e.name) (has_name_at (take s.writer.end s.buffer) e.name) (omega (arith, at, below))
-            by_choice false at = at
+    -- no slot is empty
+    pub search_full : (r : Option ℕ) → Probed (slot_count words) p (Ok r) → is_some r ≡ false → late_of s e ≡ 0 → seeks s ≡ true
+        → 24 ≡ refusal_by_slots s words e
+    search_full None at empty none off = rw (eq-eqb p m at, off) at (number_is None at none)
+    search_full (Some i) at empty none off = absurd (false_not_true (sym empty))
 
-        pub search_end : {h : ℕ} {d : Decision} → AppendPre s e h → r ≡ slot_count words → WithoutSlot (seeks s) (slot_count words) d → Decided s words e h d
-        search_end {h} {d} stores at-end given =
+    -- a slot below their number is the first empty one, and is found by a search alone
+    pub search_slot : {h : ℕ} (r : Option ℕ) → Probed (slot_count words) p (Ok r) → late_of s e ≡ 0 → AppendPre s e h
+        → (seeks s ≡ true → is_some r ≡ true) → Decided s words e h (Ok r)
+    search_slot None at none stores given =
+        record {
+          number = by_choice (seeks s) refl;
+          bounds = record { taken = not_sought (seeks s) refl; stores = stores };
+        }
+      where
+        not_sought : (b : Bool) → seeks s ≡ b → seeks s ≡ false
+        not_sought true off = absurd (false_not_true (given off))
+        not_sought false on = on
+
+        by_choice : (b : Bool) → seeks s ≡ b → 0 ≡ refusal_by_slots s words e
+        by_choice true off = absurd (false_not_true (given off))
+        by_choice false on = rw (eq-eqb p m at, on) at (number_is None at none)
+    search_slot {h} (Some i) at none stores given =
+        record {
+          number = rw (ne_eqb p m (λ z. omega (arith, z, at.is, at.below))) at (number_is (Some i) at none);
+          bounds = record { taken = by_choice (seeks s) refl is; stores = stores };
+        }
+      where
+        by_choice : (b : Bool) → seeks s ≡ b → p ≡ cond b k m → SlotTaken s words e i
+        by_choice true off from =
             record {
-              number = given.number ∙ (rw (eq-eqb r m at-end) at number_is);
-              bounds = λ z. by_choice (seeks s) refl (sym given.number ∙ z) (given.slot z);
+              sought = off;
+              inside = at.below;
+              first = sym at.is
+                  ∙ from
+                  ∙ probe_first words (hash_of e.name) (has_name_at (take s.writer.end s.buffer) e.name) (omega (arith, from, at.is, at.below));
             }
-          where
-            by_choice : (b : Bool) → seeks s ≡ b → ◌≡◌ {A = ℕ} (cond b 24 0) 0 → d.slot ≡ m → InBounds s words e h d.slot
-            by_choice true off z at = absurd (omega arith)
-            by_choice false on z at =
-                record {
-                  inside = λ off. absurd (false_not_true (sym on ∙ off));
-                  slot = at ∙ sym (ap (λ (b : Bool). cond b first m) on);
-                  stores = stores;
-                }
+        by_choice false on from = absurd (omega (arith, from, at.is, at.below))

@@ -5,6 +5,7 @@ use native.Mathlib.Omega.{arith}
 use mathlib.Core.Path.{◌≡◌, refl, sym, ap, ◌∙◌, ap₂, subst}
 use mathlib.Core.Bool.{Bool, true, false, cond, not, ◌&&◌}
 use mathlib.Core.List.{List}
+use Rattle.std.specs.Prelude.{Option, Some, None, Ok}
 use borrow.Author.Tests.{le-ltb, ltb-true, eqb-false, leb-false, eq-eqb, ne_eqb, lt-ltb}
 use lib.Dec.{eqb, leb, ltb}
 use lib.ListN.{length, get_or}
@@ -22,7 +23,6 @@ use Rattle.writer.proofs.Closes.{Accepted, accepted}
 use Rattle.writer.proofs.Puts.{long_name, count_small}
 use Rattle.index.specs.Index.{slot_count, seeks, Right, indexed_refusal, slot_stored, slot_inserted, first_empty_slot, slots_after, after_indexed}
 use Rattle.index.specs.Refusals.{early_refusal, late_refusal, early_of, late_of, probed_for, refusal_by_slots}
-use Rattle.index.specs.declared.Decision.{Decision}
 use Rattle.index.specs.Promise.{PutIndexed}
 use Rattle.index.specs.Steps.Decided.{Decided, InBounds}
 use Rattle.index.proofs.Contains.{long_absent, put_probe}
@@ -113,58 +113,55 @@ none_refused s words e z = by_tests (seeks s) refl (eqb (put_refusal s e) 0) ref
 
 -- ---- what a put leaves
 
-module _ {s : State} {words : List ℕ} {e : Entry} {h : ℕ} {d : Decision} (bytes : AllBytes s.buffer) (decided : Decided s words e h d) where
-  by_rule : Right s words → d.refusal ≡ indexed_refusal s words e
-  by_rule right = decided.number ∙ slots_by_rule bytes right e
+-- the slots after an accepted put that takes this slot
+abbrev pub Stored : State → List ℕ → ℕ → List ℕ → Option ℕ → Type 0
+Stored s words h words' None = words' ≡ words
+Stored s words h words' (Some k) = words' ≡ slot_stored words k h s.writer.end
 
-  pub put_refused : (d.refusal ≡ 0 → ⊥) → PutIndexed s words e d.refusal s words
+module _ {s : State} {words : List ℕ} (bytes : AllBytes s.buffer) (e : Entry) where
+  by_rule : {n : ℕ} → n ≡ refusal_by_slots s words e → Right s words → n ≡ indexed_refusal s words e
+  by_rule number right = number ∙ slots_by_rule bytes right e
+
+  pub put_refused : {n : ℕ} → n ≡ refusal_by_slots s words e → (n ≡ 0 → ⊥) → PutIndexed s words e n s words
   unfolding after_indexed
-  put_refused n =
+  put_refused number some =
       record {
-        number = decided.number;
+        number = number;
         refused = λ z. (refl, refl);
-        accepted = λ z. absurd (n z);
-        answer = by_rule;
-        leaves = λ right. sym (ap (λ (b : Bool). cond b (appended s e) s) (ne_eqb (indexed_refusal s words e) 0 (λ z. n (by_rule right ∙ z))));
+        accepted = λ z. absurd (some z);
+        answer = by_rule number;
+        leaves = λ right. sym (ap (λ (b : Bool). cond b (appended s e) s) (ne_eqb (indexed_refusal s words e) 0 (λ z. some (by_rule number right ∙ z))));
         right = λ right. right;
       }
 
-  module _ (z : d.refusal ≡ 0) (word : e.id < 2 ^ 32) {t : State} {words' : List ℕ} (appends : t ≡ appended s e)
-      (stores : words' ≡ cond (ltb d.slot (slot_count words)) (slot_stored words d.slot h s.writer.end) words) where
-    bounds : InBounds s words e h d.slot
-    bounds = decided.bounds z
-
-    first_is : seeks s ≡ true → d.slot ≡ first_empty_slot words (hash_of e.name)
-    first_is off = bounds.slot ∙ ap (λ (b : Bool). cond b (first_empty_slot words (hash_of e.name)) (slot_count words)) off
+  module _ {h : ℕ} {slot : Option ℕ} (decided : Decided s words e h (Ok slot)) (word : e.id < 2 ^ 32) {t : State} {words' : List ℕ}
+      (appends : t ≡ appended s e) (stores : Stored s words h words' slot) where
+    inserted : (r : Option ℕ) → InBounds s words e h r → Stored s words h words' r → words' ≡ slots_after s words e
+    inserted None b to = rw b.taken to
+    inserted (Some k) b to = rw b.taken.sought (to ∙ ap₂ (λ (i x : ℕ). slot_stored words i x s.writer.end) b.taken.first b.stores.hash)
 
     inserts : words' ≡ slots_after s words e
-    inserts = stores ∙ by_choice (seeks s) refl
-      where
-        by_choice : (b : Bool) → seeks s ≡ b → cond (ltb d.slot (slot_count words)) (slot_stored words d.slot h s.writer.end) words
-            ≡ cond b (slot_inserted words (hash_of e.name) s.writer.end) words
-        by_choice true off =
-            ap (λ (b : Bool). cond b (slot_stored words d.slot h s.writer.end) words) (lt-ltb d.slot (slot_count words) (bounds.inside off))
-            ∙ ap₂ (λ (i x : ℕ). slot_stored words i x s.writer.end) (first_is off) bounds.stores.hash
-        by_choice false on =
-            let none = bounds.slot ∙ ap (λ (b : Bool). cond b (first_empty_slot words (hash_of e.name)) (slot_count words)) on in
-            ap (λ (b : Bool). cond b (slot_stored words d.slot h s.writer.end) words) (le-ltb d.slot (slot_count words) (omega (arith, none)))
+    inserts = inserted slot decided.bounds stores
 
     stays : Right s words → Right t words'
     stays right =
-        let none = none_refused s words e (sym (by_rule right) ∙ z) in
-        let inside : seeks s ≡ true → first_empty_slot words (hash_of e.name) < slot_count words =
-        λ off. subst (λ (k : ℕ). k < slot_count words) (first_is off) (bounds.inside off) in
+        let none = none_refused s words e (sym (by_rule decided.number right)) in
         subst (λ (u : State). Right u words') (sym appends)
-        (subst (Right (appended s e)) (sym inserts) (right_after_put bytes right e word none.0 none.1 inside))
+        (subst (Right (appended s e)) (sym inserts) (right_after_put bytes right e word none.0 none.1 (λ off. inside off slot decided.bounds)))
+      where
+        inside : seeks s ≡ true → (r : Option ℕ) → InBounds s words e h r → first_empty_slot words (hash_of e.name) < slot_count words
+        inside off None b = absurd (false_not_true (sym b.taken ∙ off))
+        inside off (Some k) b = subst (λ (i : ℕ). i < slot_count words) b.taken.first b.taken.inside
 
     pub put_accepted : PutIndexed s words e 0 t words'
     unfolding after_indexed
     put_accepted =
         record {
-          number = sym z ∙ decided.number;
+          number = decided.number;
           refused = λ n. absurd (n refl);
           accepted = λ none. (appends, inserts);
-          answer = λ right. sym z ∙ by_rule right;
-          leaves = λ right. appends ∙ sym (ap (λ (b : Bool). cond b (appended s e) s) (eq-eqb (indexed_refusal s words e) 0 (sym (by_rule right) ∙ z)));
+          answer = by_rule decided.number;
+          leaves = λ right. appends ∙ sym (ap (λ (b : Bool). cond b (appended s e) s) (eq-eqb (indexed_refusal s words e) 0 (sym (by_rule decided.number
+              right))));
           right = stays;
         }

@@ -3,10 +3,14 @@
 use Prim.Native.Nat.{ℕ}
 use native.Mathlib.Omega.{arith}
 use mathlib.Core.Path.{◌≡◌, refl, sym, ap, subst, ◌∙◌}
-use mathlib.Core.Bool.{Bool, true, false}
+use mathlib.Core.Bool.{Bool, true, false, cond}
 use mathlib.Core.List.{List}
 use lib.Dec.{eqb}
 use borrow.Author.Tests.{eqb-true, eqb-false}
+use Rattle.std.specs.Prelude.{Result, Ok, Err}
+use Rattle.jhash.specs.declared.refusals.Refusal.{Refusal}
+use Rattle.jhash.specs.declared.refusals.Refusal.TheVariants.{Unfit}
+use Rattle.jhash.specs.Refusals.{number_of}
 use Rattle.image.specs.Image.{Entry}
 use Rattle.image.proofs.Bools.{false_not_true}
 use Rattle.writer.specs.declared.CQDBWriter.{CQDBWriter}
@@ -14,7 +18,8 @@ use Rattle.writer.specs.State.{State, state_with}
 use Rattle.writer.specs.Put.{writer_after_entry, appended}
 use Rattle.writer.specs.Close.{after_close}
 use Rattle.writer.specs.declared.c_record.Record.{Record}
-use Rattle.writer.specs.CRecord.{writer_of, record_of, CState, c_state, known_in, state_in, c_state_of}
+use Rattle.writer.specs.Numbers.{valid_numbers}
+use Rattle.writer.specs.CRecord.{writer_of, writer_read, record_of, CState, c_state, known_in, state_in, c_state_of}
 use Rattle.writer.proofs.CRecords.{back_and_forth, forth_and_back, c_state_known, record_after, Stay, whole_stored}
 use Rattle.lists.specs.Theorems.LongerBuffer.{moved_to}
 use Rattle.index.specs.Index.{Right}
@@ -31,9 +36,27 @@ held_right s words right =
       index = subst (λ (t : State). Right t words) (sym (forth_and_back s)) right;
     }
 
+-- ---- the record that is lent in place, read
+
+read_unknown : (r : Record) {e : Refusal} → Err e ≡ writer_read r → (valid_numbers r.mode r.repeats ≡ false) × (number_of e ≡ 2)
+read_unknown r {e} is = by_choice (valid_numbers r.mode r.repeats) refl is
+  where
+    by_choice : (b : Bool) → valid_numbers r.mode r.repeats ≡ b → ◌≡◌ {A = Result CQDBWriter Refusal} (Err e) (cond b (Ok (writer_of r)) (Err Unfit))
+        → (valid_numbers r.mode r.repeats ≡ false) × (number_of e ≡ 2)
+    by_choice true x is = cc
+    by_choice false x is = let same : e ≡ Unfit = cc in (x, ap number_of same)
+
+pub read_known : (r : Record) {w : CQDBWriter} → Ok w ≡ writer_read r → (valid_numbers r.mode r.repeats ≡ true) × (w ≡ writer_of r)
+read_known r {w} is = by_choice (valid_numbers r.mode r.repeats) refl is
+  where
+    by_choice : (b : Bool) → valid_numbers r.mode r.repeats ≡ b → ◌≡◌ {A = Result CQDBWriter Refusal} (Ok w) (cond b (Ok (writer_of r)) (Err Unfit))
+        → (valid_numbers r.mode r.repeats ≡ true) × (w ≡ writer_of r)
+    by_choice true x is = let same : w ≡ writer_of r = cc in (x, same)
+    by_choice false x is = cc
+
 -- ---- the put
 
-pub put_unknown : (h : CState) (words : List ℕ) (e : Entry) → known_in h ≡ false → PutIndexedHeld h words e 2 h words
+put_unknown : (h : CState) (words : List ℕ) (e : Entry) → known_in h ≡ false → PutIndexedHeld h words e 2 h words
 unfolding put_by_slots_number
 put_unknown h words e over =
     record {
@@ -47,6 +70,13 @@ put_unknown h words e over =
   where
     is : 2 ≡ put_by_slots_number h words e
     is = rw over refl
+
+-- the record is none of 01
+pub put_unread : (h : CState) (words : List ℕ) (e : Entry) {r : Refusal} → Err r ≡ writer_read h.writer
+    → PutIndexedHeld h words e (number_of r) h words
+put_unread h words e is =
+    let u = read_unknown h.writer is in
+    subst (λ (k : ℕ). PutIndexedHeld h words e k h words) (sym u.1) (put_unknown h words e u.0)
 
 module _ (h : CState) {words : List ℕ} {e : Entry} {v w' : CQDBWriter} {counts buffer words' : List ℕ} {k : ℕ} (fine : known_in h ≡ true)
     (is : v ≡ writer_of h.writer) (given : PutIndexed (state_with v h.counts h.buffer) words e k (state_with w' counts buffer) words')
@@ -104,7 +134,7 @@ module _ (h : CState) {words : List ℕ} {e : Entry} {v w' : CQDBWriter} {counts
 
 -- ---- making the index
 
-pub index_unknown : (h : CState) (words : List ℕ) → known_in h ≡ false → IndexedHeld h words 2 words
+index_unknown : (h : CState) (words : List ℕ) → known_in h ≡ false → IndexedHeld h words 2 words
 unfolding index_number
 index_unknown h words over =
     record {
@@ -117,6 +147,11 @@ index_unknown h words over =
   where
     is : 2 ≡ index_number h words
     is = rw over refl
+
+pub index_unread : (h : CState) (words : List ℕ) {r : Refusal} → Err r ≡ writer_read h.writer → IndexedHeld h words (number_of r) words
+index_unread h words is =
+    let u = read_unknown h.writer is in
+    subst (λ (k : ℕ). IndexedHeld h words k words) (sym u.1) (index_unknown h words u.0)
 
 module _ (h : CState) {words words' : List ℕ} {v : CQDBWriter} {k : ℕ} (fine : known_in h ≡ true) (is : v ≡ writer_of h.writer)
     (given : Indexed (state_with v h.counts h.buffer) words k words') where

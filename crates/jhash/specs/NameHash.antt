@@ -2,8 +2,6 @@
 use Rattle.std.specs.Prelude.{ℕ, cond, List, [], ◌∷◌, ◌++◌, length, nat_lt}
 use Rattle.jhash.specs.Outcome.{Outcome, value, refusal}
 use Rattle.jhash.specs.Lookup3.{hashlittle}
-use Rattle.jhash.specs.declared.Hashed.{Hashed}
-use Rattle.jhash.specs.declared.Hashed.TheVariants.{Hash, Refused}
 use Rattle.jhash.specs.Refusals as refused
 
 -- The hash of a name with a start value: hashlittle over the name and one zero byte.
@@ -15,11 +13,6 @@ name_hash name start = hashlittle (name ++ 0 ∷ []) start
 unfoldable pub hash_of : List ℕ → ℕ
 unfolding name_hash
 hash_of name = name_hash name 0
-
--- The number or value of each case of `Hashed`.
-abbrev pub outcome : Hashed → Outcome ℕ
-outcome (Hash h) = value h
-outcome Refused = refusal refused.name_too_long
 
 -- The rule: refusal 9 when the name has 4,294,967,295 bytes or more, otherwise its hash.
 unfoldable pub hash_outcome : List ℕ → ℕ → Outcome ℕ

@@ -1,5 +1,12 @@
 -- The numbers of the refusals, by the names that C has. 01 and 02 fix those up to 23, and 24 is added.
 use Rattle.std.specs.Prelude.{ℕ}
+use Rattle.jhash.specs.declared.refusals.Refusal.{Refusal}
+use Rattle.jhash.specs.declared.refusals.Refusal.TheVariants.{TooShort, Unfit, NoRoom, Inconsistent, WrongLetters}
+use Rattle.jhash.specs.declared.refusals.Refusal.TheVariants.{WrongByteOrder, TableLeaves, BackLeaves, NameTooLong}
+use Rattle.jhash.specs.declared.refusals.Refusal.TheVariants.{BrokenBundle, NoSuchImage, PageTooLong, ZeroByte}
+use Rattle.jhash.specs.declared.refusals.Refusal.TheVariants.{RoundUnfit, AnswersTooFew, Repeated, NotCanonical}
+use Rattle.jhash.specs.declared.refusals.Refusal.TheVariants.{NoEntries, TooFewBytes, LeftOverBytes, SheetTooLarge}
+use Rattle.jhash.specs.declared.refusals.Refusal.TheVariants.{NoSuchDate, NotBeforeEnd, IndexFull}
 
 -- fewer than 2,072 bytes
 abbrev pub too_short : ℕ
@@ -96,3 +103,30 @@ not_before_end = 23
 -- every slot of the index is taken
 abbrev pub index_full : ℕ
 index_full = 24
+
+-- the number of a refusal
+abbrev pub number_of : Refusal → ℕ
+number_of TooShort = too_short
+number_of Unfit = unfit
+number_of NoRoom = no_room
+number_of Inconsistent = inconsistent
+number_of WrongLetters = wrong_letters
+number_of WrongByteOrder = wrong_byte_order
+number_of TableLeaves = table_leaves
+number_of BackLeaves = back_leaves
+number_of NameTooLong = name_too_long
+number_of BrokenBundle = broken_bundle
+number_of NoSuchImage = no_such_image
+number_of PageTooLong = page_too_long
+number_of ZeroByte = zero_byte
+number_of RoundUnfit = round_unfit
+number_of AnswersTooFew = answers_too_few
+number_of Repeated = repeated
+number_of NotCanonical = not_canonical
+number_of NoEntries = no_entries
+number_of TooFewBytes = too_few_bytes
+number_of LeftOverBytes = left_over_bytes
+number_of SheetTooLarge = sheet_too_large
+number_of NoSuchDate = no_such_date
+number_of NotBeforeEnd = not_before_end
+number_of IndexFull = index_full

@@ -5,11 +5,13 @@ ghost use Rattle.std.specs.Prelude.{◌≡◌, ◌+◌, ◌*◌, ◌/◌, ◌%�
 ghost use Rattle.jhash.specs.Lookup3.{sub32, rotl32, plus, added, mix, final_word, final};
 ghost use Rattle.jhash.specs.Lookup3.{equal_words, initial_word, hash_rest};
 ghost use Rattle.jhash.specs.Steps.Rounds.{mix_round, final_step};
-ghost use Rattle.jhash.specs.NameHash.{outcome, hash_outcome, hash_or_zero};
+ghost use Rattle.jhash.specs.Outcome.{outcome_of};
+ghost use Rattle.jhash.specs.NameHash.{hash_outcome, hash_or_zero};
 
+use refusals::Refusal;
 use word::{word, word_near_end};
 
-pub mod refusals; // refusals.rt: the numbers of the refusals
+pub mod refusals; // refusals.rt: the refusals and their numbers
 pub mod word; // word.rt: the little-endian words of a slice
 
 // lookup3's three words a, b, c.
@@ -18,13 +20,6 @@ struct Words {
     a: u32,
     b: u32,
     c: u32,
-}
-
-// The answer: the hash, or the refusal of a name that is too long.
-#[derive(Clone, Copy)]
-pub enum Hashed {
-    Hash(u32),
-    Refused,
 }
 
 // What the three words begin with, before length and start value are added.
@@ -63,7 +58,7 @@ pub fn rotate_left(x: u32, k: u32) -> u32
 fn minus(x: u32, y: u32) -> u32
     ensures { result ≡ sub32 x y }
 {
-    std::num::wrapping_sub_u32(x, y)
+    x.wrapping_sub(y)
 }
 
 // One round of mixing. It returns the words renamed, so that the next round is again on (a, c, b): a is the old b, b is
@@ -77,7 +72,7 @@ fn mix_round(w: Words, k: u32) -> Words
     let c = minus(w.a, w.c) ^ rotated;
     Words {
         a: w.b,
-        b: std::num::wrapping_add_u32(w.c, w.b),
+        b: w.c.wrapping_add(w.b),
         c,
     }
 }
@@ -124,9 +119,9 @@ fn plus(w: Words, x: u32, y: u32, z: u32) -> Words
     ensures { result ≡ plus w x y z }
 {
     Words {
-        a: std::num::wrapping_add_u32(w.a, x),
-        b: std::num::wrapping_add_u32(w.b, y),
-        c: std::num::wrapping_add_u32(w.c, z),
+        a: w.a.wrapping_add(x),
+        b: w.b.wrapping_add(y),
+        c: w.c.wrapping_add(z),
     }
 }
 
@@ -162,6 +157,7 @@ fn hash_from(name: &[u8], x: u32) -> u32
     // in place of a pointer to both.
     let n = name.len();
     let mut t = &name[0..n];
+    // No index is counted: each turn takes twelve bytes off the front.
     while 12 <= t.len() {
         words = jhash_mix(added_block(words, t));
         t = &t[12..];
@@ -182,37 +178,34 @@ fn initial_word(name: &[u8], start: u32) -> u32
     ensures { result ≡ initial_word (length name.now + 1) start }
 {
     let count = name.len() as u32 + 1;
-    std::num::wrapping_add_u32(std::num::wrapping_add_u32(JHASH_INITVAL, count), start)
+    JHASH_INITVAL.wrapping_add(count).wrapping_add(start)
 }
 
 // The hash of a name with a start value: hashlittle over the name and one zero byte. A name of 4,294,967,295 bytes or
 // more is refused with 9.
-pub fn jhash(name: &[u8], initval: u32) -> Hashed
-    ensures { outcome result ≡ hash_outcome name.now initval }
+pub fn jhash(name: &[u8], initval: u32) -> Result<u32, Refusal>
+    ensures { outcome_of result ≡ hash_outcome name.now initval }
 {
     if too_long(name) {
-        return Hashed::Refused;
+        return Err(Refusal::NameTooLong);
     }
-    Hashed::Hash(hash_from(name, initial_word(name, initval)))
+    Ok(hash_from(name, initial_word(name, initval)))
 }
 
 // The hash that images use: start value 0. It does not call `jhash`: where both are used, `hash_from` then stays a
 // function of its own, and both small ones around it go into their callers.
-pub fn name_hash(name: &[u8]) -> Hashed
-    ensures { outcome result ≡ hash_outcome name.now 0 }
+pub fn name_hash(name: &[u8]) -> Result<u32, Refusal>
+    ensures { outcome_of result ≡ hash_outcome name.now 0 }
 {
     if too_long(name) {
-        return Hashed::Refused;
+        return Err(Refusal::NameTooLong);
     }
-    Hashed::Hash(hash_from(name, initial_word(name, 0)))
+    Ok(hash_from(name, initial_word(name, 0)))
 }
 
 // The hash of a name, 0 where it is too long to have one.
 pub fn hash_or_zero(name: &[u8]) -> u32
     ensures { result ≡ hash_or_zero name.now }
 {
-    match name_hash(name) {
-        Hashed::Hash(h) => h,
-        Hashed::Refused => 0,
-    }
+    name_hash(name).unwrap_or(0)
 }

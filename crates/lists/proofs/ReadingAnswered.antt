@@ -10,7 +10,7 @@ use Rattle.image.specs.declared.Mode.{Mode}
 use Rattle.image.specs.declared.Mode.TheVariants.{Twoway, Oneway}
 use Rattle.image.specs.Image.{Entry, head_size, back_size, image_size, image}
 use Rattle.reader.specs.Lookup.{Lookup, found, nothing, lookup}
-use Rattle.reader.specs.declared.Found.{Found}
+use Rattle.reader.specs.Lookup.{Found}
 use Rattle.consistency.specs.Matches.{matches_of, any_match}
 use Rattle.reader.specs.IdWalk.{step_of, step}
 use Rattle.consistency.specs.Home.{home_by, home}

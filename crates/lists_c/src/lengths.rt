@@ -3,9 +3,10 @@ ghost use Rattle.std.specs.Prelude.{◌≡◌};
 ghost use Rattle.search_length.specs.Average.{Lengths};
 ghost use Rattle.lists_c.specs.AverageAnswer.{average_answer};
 
-use search_length::Averaged;
+use jhash::refusals::refusal_number;
 
-// The refusal's number, 0 when accepted; the number of entries, quotient and remainder, 0 when refused.
+// The refusal's number, 0 when accepted; the number of entries, quotient and remainder, 0 when refused. The C interface
+// asks for a struct.
 #[repr(C)]
 #[derive(Clone, Copy)]
 pub struct AverageAnswer {
@@ -20,16 +21,15 @@ pub struct AverageAnswer {
 pub extern "C" fn cqdb_average(image: &[u8]) -> AverageAnswer
     ensures { result ≡ average_answer image.now }
 {
-    let averaged = search_length::average(image);
-    match averaged {
-        Averaged::Average(m) => AverageAnswer {
+    match search_length::average(image) {
+        Ok(m) => AverageAnswer {
             refusal: 0,
             entries: m.entries,
             quotient: m.quotient,
             remainder: m.remainder,
         },
-        Averaged::Refused(k) => AverageAnswer {
-            refusal: k,
+        Err(refusal) => AverageAnswer {
+            refusal: u32::from(refusal),
             entries: 0,
             quotient: 0,
             remainder: 0,
@@ -43,5 +43,5 @@ pub extern "C" fn cqdb_average(image: &[u8]) -> AverageAnswer
 pub extern "C" fn cqdb_lengths(image: &[u8], counts: &mut [u32; 16]) -> u32
     ensures { Lengths image.now counts.old counts.new result }
 {
-    search_length::lengths(image, &mut *counts)
+    refusal_number(search_length::lengths(image, counts))
 }

@@ -3,9 +3,8 @@ ghost use Rattle.std.specs.Prelude.{◌≡◌};
 ghost use Rattle.load.specs.Load.{after_load};
 ghost use Rattle.lists_c.specs.LoadAnswer.{load_answer};
 
-use load::Loaded;
-
-// The refusal's number, 0 when accepted; the number of accepted entries, 0 when refused.
+// The refusal's number, 0 when accepted; the number of accepted entries, 0 when refused. The C interface asks for a
+// struct.
 #[repr(C)]
 #[derive(Clone, Copy)]
 pub struct LoadAnswer {
@@ -19,14 +18,13 @@ pub extern "C" fn cqdb_load(seed: u32, buf: &mut [u8]) -> LoadAnswer
     ensures answer { result ≡ load_answer seed buf.old }
     ensures leaves { buf.new ≡ after_load seed buf.old }
 {
-    let loaded = load::load(seed, &mut *buf);
-    match loaded {
-        Loaded::Accepted(n) => LoadAnswer {
+    match load::load(seed, buf) {
+        Ok(accepted) => LoadAnswer {
             refusal: 0,
-            accepted: n,
+            accepted,
         },
-        Loaded::Refused(k) => LoadAnswer {
-            refusal: k,
+        Err(refusal) => LoadAnswer {
+            refusal: u32::from(refusal),
             accepted: 0,
         },
     }

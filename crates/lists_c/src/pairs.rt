@@ -3,10 +3,10 @@ ghost use Rattle.std.specs.Prelude.{◌≡◌};
 ghost use Rattle.one_to_one.specs.OneToOne.{one_to_one};
 ghost use Rattle.lists_c.specs.OneToOneAnswer.{one_to_one_answer};
 
-use one_to_one::OneToOne;
+use one_to_one::Failure;
 
 // The refusal's number, 0 when accepted; 1 for yes; otherwise the kind of the first failure and its entry's offset.
-// Fields that do not apply are 0.
+// Fields that do not apply are 0. The C interface asks for a struct of numbers.
 #[repr(C)]
 #[derive(Clone, Copy)]
 pub struct OneToOneAnswer {
@@ -22,26 +22,26 @@ pub extern "C" fn cqdb_one_to_one(image: &[u8]) -> OneToOneAnswer
     ensures { result ≡ one_to_one_answer (one_to_one image.now) }
 {
     match one_to_one::one_to_one(image) {
-        OneToOne::Yes => OneToOneAnswer {
+        Ok(None) => OneToOneAnswer {
             refusal: 0,
             ok: 1,
             kind: 0,
             offset: 0,
         },
-        OneToOne::OtherId { offset } => OneToOneAnswer {
+        Ok(Some(Failure::OtherId { offset })) => OneToOneAnswer {
             refusal: 0,
             ok: 0,
             kind: 1,
             offset,
         },
-        OneToOne::OtherName { offset } => OneToOneAnswer {
+        Ok(Some(Failure::OtherName { offset })) => OneToOneAnswer {
             refusal: 0,
             ok: 0,
             kind: 2,
             offset,
         },
-        OneToOne::Refused(k) => OneToOneAnswer {
-            refusal: k,
+        Err(refusal) => OneToOneAnswer {
+            refusal: u32::from(refusal),
             ok: 0,
             kind: 0,
             offset: 0,

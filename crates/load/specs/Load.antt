@@ -7,8 +7,6 @@ use Rattle.writer.specs.State.{State, fresh, begin_refusal}
 use Rattle.writer.specs.Put.{put_refusal, after_put}
 use Rattle.writer.specs.Close.{after_close}
 use Rattle.load.specs.States.{load_entry}
-use Rattle.load.specs.declared.Loaded.{Loaded}
-use Rattle.load.specs.declared.Loaded.TheVariants.{Accepted, Refused}
 
 -- the entries from i on are put until n of them are accepted or one is refused
 unfoldable pub put_from : ℕ → ℕ → ℕ → State → State
@@ -32,8 +30,3 @@ loading seed buffer =
 -- "then closed"; a refusal changes no byte
 unfoldable pub after_load : ℕ → List ℕ → List ℕ
 after_load seed buffer = cond (eqb (begin_refusal (length buffer)) 0) (after_close (load_put seed buffer)).buffer buffer
-
--- the number and the value of each case of the answer
-abbrev pub loaded_of : Loaded → Outcome ℕ
-loaded_of (Accepted n) = value n
-loaded_of (Refused k) = refusal k

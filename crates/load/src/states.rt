@@ -6,7 +6,7 @@ ghost use Rattle.load.specs.States.{next_state, hex_digit, state_name};
 pub(super) fn stepped(s: u32) -> u32
     ensures { result ≡ next_state s }
 {
-    ((1664525 * (s as u64) + 1013904223) % 4294967296) as u32
+    s.wrapping_mul(1664525).wrapping_add(1013904223)
 }
 
 // An uppercase hexadecimal digit.

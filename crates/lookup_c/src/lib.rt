@@ -4,10 +4,12 @@
 #![tactic(auto)]
 
 ghost use Rattle.std.specs.Prelude.{◌≡◌};
-ghost use Rattle.lookup_c.specs.IdAnswers.{id_answer};
+ghost use Rattle.reader.specs.Cases.{lookup_of};
+ghost use Rattle.lookup_c.specs.IdAnswers.{id_answer, id_answer_of};
 
 use reader::ToId;
 
+// The C interface: a struct of words in place of an Option.
 // 1, the id and the offset of the entry when the name was found, each 0 when not; and the number of buckets that the
 // search reads. Four words are returned in two registers.
 #[repr(C)]
@@ -19,24 +21,33 @@ pub struct IdAnswer {
     pub offset: u32,
 }
 
+// What a lookup answers, as numbers.
+impl From<ToId> for IdAnswer {
+    ghost from_gives = { λ t a. a ≡ id_answer_of (lookup_of t) };
+
+    fn from(answer: ToId) -> IdAnswer {
+        let buckets = answer.buckets;
+        match answer.hit {
+            Some(hit) => IdAnswer {
+                found: 1,
+                id: hit.id,
+                buckets,
+                offset: hit.offset,
+            },
+            None => IdAnswer {
+                found: 0,
+                id: 0,
+                buckets,
+                offset: 0,
+            },
+        }
+    }
+}
+
 // The id of a name and the offset of its entry, or nothing.
 #[unsafe(no_mangle)]
 pub extern "C" fn cqdb_to_id(image: &[u8], name: &[u8]) -> IdAnswer
     ensures { result ≡ id_answer image.now name.now }
 {
-    let answer = reader::to_id(image, name);
-    match answer {
-        ToId::Found(found) => IdAnswer {
-            found: 1,
-            id: found.id,
-            buckets: found.buckets,
-            offset: found.offset,
-        },
-        ToId::Nothing { buckets } => IdAnswer {
-            found: 0,
-            id: 0,
-            buckets,
-            offset: 0,
-        },
-    }
+    IdAnswer::from(reader::to_id(image, name))
 }

@@ -13,7 +13,7 @@ use Rattle.image.specs.declared.Mode.{Mode}
 use Rattle.image.specs.declared.Mode.TheVariants.{Twoway}
 use Rattle.reader.specs.Open.{opening}
 use Rattle.reader.specs.Lookup.{Lookup, found, nothing, lookup}
-use Rattle.reader.specs.declared.Found.{Found}
+use Rattle.reader.specs.Lookup.{Found}
 use Rattle.lookup_laws.specs.Answer.{found_id, found_offset, name_given, of_name, of_id, table_puts, first_id, last_name, first_at}
 use Rattle.reader.specs.Cases.{reads}
 use Rattle.lookup_laws.proofs.ImageOpening.{opening_image}

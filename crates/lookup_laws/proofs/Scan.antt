@@ -8,7 +8,7 @@ use native.Mathlib.Omega.{arith}
 use lib.ListN.{length, get_or, set}
 use Rattle.reader.specs.Lookup.{Lookup, found, nothing, Hit, Probe, pass, ends, hit}
 use Rattle.consistency.specs.Matches.{Matches, matched, ended, add_match, matches_along, first_match}
-use Rattle.reader.specs.declared.Found.{Found}
+use Rattle.reader.specs.Lookup.{Found}
 use Rattle.reader.specs.Cases.{reads}
 
 -- ---- the search along a list

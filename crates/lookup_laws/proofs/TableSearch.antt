@@ -15,7 +15,7 @@ use lib.ListN.{length, get_or}
 use Rattle.image.specs.Tables.{Bucket, empty, start, probe_sequence, filled}
 use Rattle.reader.specs.Lookup.{found, Hit, Probe, pass, ends, hit}
 use Rattle.consistency.specs.Matches.{Matches, matches_along, first_match}
-use Rattle.reader.specs.declared.Found.{Found}
+use Rattle.reader.specs.Lookup.{Found}
 use Rattle.reader.specs.Cases.{reads}
 use Rattle.image.proofs.AllOfList.{All, all_map, map_ext}
 use Rattle.image.proofs.Buckets.{filled_all}

@@ -14,8 +14,7 @@ use Rattle.image.proofs.Equal.{same_self}
 use Rattle.reader.specs.Lookup.{Lookup, found, nothing, lookup}
 use Rattle.lookup_laws.specs.Answer.{found_id, of_name}
 use Rattle.changes.specs.Moves.{other_id, moved_name, moved}
-use Rattle.changes.proofs.Moves.{another_id}
-use Rattle.changes.proofs.Search.{none_some}
+use borrow.Author.Tests.{ne_eqb}
 use Rattle.changes.proofs.Theorem.{compared}
 use Rattle.writer.specs.declared.Repeats.TheVariants.{Off}
 use Rattle.lists.specs.Calls.{Call, WordIds}
@@ -37,8 +36,8 @@ use Rattle.one_to_one.proofs.Pairs as pairs
 other_found : (x : Lookup) (id other : ℕ) → found_id x ≡ some other → ¬ (other ≡ id) → other_id id x ≡ some other
 other_found (found f) id other h n =
     let e : f.id ≡ other = cc in
-    sym (another_id id f (found f) refl (λ q. n (sym e ∙ q))) ∙ ap {B = Option ℕ} some e
-other_found (nothing reads) id other h n = none_some other h
+    rw (ne_eqb f.id id (λ q. n (sym e ∙ q))) (ap {B = Option ℕ} some e)
+other_found (nothing reads) id other h n = cc
 
 module _ (old new : List ℕ) (m : Made new) (ids : OneId m.puts) where
   moves : (id other : ℕ) → HasOldName old new id other → moved old new id ≡ some other

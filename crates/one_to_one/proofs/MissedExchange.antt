@@ -12,7 +12,7 @@ use Rattle.image.specs.declared.Mode.TheVariants.{Twoway}
 use Rattle.reader.specs.Lookup.{Lookup, found, nothing, lookup}
 use Rattle.lookup_laws.specs.Answer.{found_id, name_given, of_name, of_id, first_id, last_name}
 use Rattle.changes.specs.Moves.{other_id, moved_name, moved}
-use Rattle.changes.proofs.Moves.{same_id}
+use borrow.Author.Tests.{eq-eqb}
 use Rattle.canonical.specs.Steps.Made.{Made}
 use Rattle.canonical.proofs.ReadBack.{made_mode}
 use Rattle.one_to_one.specs.OneToOne.{first_failure}
@@ -63,7 +63,7 @@ new_gives id = gives_last new made_new (made_mode new made_new) id
 
 -- a name that finds the id itself has not moved
 own_found : (x : Lookup) (id : ℕ) → found_id x ≡ some id → other_id id x ≡ none
-own_found (found f) id h = let e : f.id ≡ id = cc in sym (same_id id f (found f) refl e)
+own_found (found f) id h = let e : f.id ≡ id = cc in rw (eq-eqb f.id id e)
 own_found (nothing reads) id h = refl
 
 not_moved : (id : ℕ) (name : List ℕ) → name_given old id ≡ some name → first_id (of_name name new_puts) ≡ some id → moved old new id ≡ none

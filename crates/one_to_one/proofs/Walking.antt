@@ -2,22 +2,21 @@
 use Prim.Native.Nat.{ℕ, ◌+◌, ◌-◌}
 use native.Mathlib.Omega.{arith}
 use mathlib.Core.Path.{◌≡◌, refl, sym, ap, ap₂, ◌∙◌}
-use mathlib.Core.Bool.{Bool, true, false, cond}
+use mathlib.Core.Bool.{Bool, true, false}
 use mathlib.Core.List.{List}
-use mathlib.Core.Option.{Option, none, some}
-use lib.Dec.{eqb}
-use Rattle.jhash.specs.Outcome.{Outcome, value}
+use mathlib.Core.Option.{none, some}
 use Rattle.jhash.specs.Word.{AllBytes}
 use Rattle.image.specs.Bytes.{word}
 use Rattle.image.specs.Image.{Entry, head_size, entry_size}
-use Rattle.image.specs.declared.Mode.TheVariants.{Twoway, Oneway}
+use Rattle.image.specs.declared.Mode.{Mode}
 use Rattle.image.specs.Steps.Contracts.{NameRead}
 use Rattle.reader.specs.Lookup.{lookup}
 use Rattle.lookup_laws.specs.Answer.{found_id, name_given}
+use Rattle.canonical.specs.Canonical.{mode_in}
 use Rattle.canonical.specs.Steps.Contracts.{CanonicalWithEntries}
 use Rattle.canonical.proofs.EntriesAhead as ahead
 use Rattle.canonical.proofs.EntriesAhead.{Ahead, Turn, ahead_starts, ahead_ends, ahead_next, length_is}
-use Rattle.one_to_one.specs.OneToOne.{is_id, is_name, asked, kind_of, kind_in, Failure, first_failure, first_failure_in}
+use Rattle.one_to_one.specs.OneToOne.{is_id, is_name, asked, kind_of, kind_in, first_failure, first_failure_in}
 use Rattle.one_to_one.proofs.Failures.{failure, passes, ends}
 
 -- the first failure among the entries ahead is the first of all
@@ -28,9 +27,9 @@ pub walk_starts : {img : List ℕ} (n : ℕ) → AllBytes img → CanonicalWithE
 unfolding first_failure_in
 walk_starts n bytes c = ahead_starts n bytes c refl
 
-pub walk_ends : {img : List ℕ} {at left : ℕ} → Ahead (First img) img at left → left ≡ 0 → value none ≡ value (first_failure_in img)
+pub walk_ends : {img : List ℕ} {at left : ℕ} → Ahead (First img) img at left → left ≡ 0 → none ≡ first_failure_in img
 unfolding first_failure
-walk_ends w z = ap {B = Outcome (Option Failure)} value (ahead_ends w z)
+walk_ends w z = ahead_ends w z
 
 -- one turn: the length word, the name and the id of the entry, and whether the name finds the id
 pub record Step (img : List ℕ) (at left len : ℕ) (name : List ℕ) (id : ℕ) (finds : Bool) : Type 0 where
@@ -53,25 +52,25 @@ module _ {img : List ℕ} {at left len : ℕ} {name : List ℕ} {id : ℕ} {find
   finds_is : finds ≡ is_id (found_id (lookup img e.name)) e.id
   finds_is = step.finds_is ∙ ap₂ (λ (l : List ℕ) (i : ℕ). is_id (found_id (lookup img l)) i) name_is id_is
 
-  fails : (k : ℕ) → kind_in img e ≡ k → ¬ (k ≡ 0) → value (some (failure k at)) ≡ value (first_failure_in img)
+  fails : (k : ℕ) → kind_in img e ≡ k → ¬ (k ≡ 0) → some (failure k at) ≡ first_failure_in img
   fails k q n =
-      ap {B = Outcome (Option Failure)} value (sym (ends (kind_in img) at e step.turn.rest k q n) ∙ step.turn.holds)
+      sym (ends (kind_in img) at e step.turn.rest k q n) ∙ step.turn.holds
 
   -- its name finds another id
-  pub other_id : finds ≡ false → value (some (failure 1 at)) ≡ value (first_failure_in img)
+  pub other_id : finds ≡ false → some (failure 1 at) ≡ first_failure_in img
   unfolding kind_in
   other_id f = fails 1 (rw (sym finds_is ∙ f)) (λ z. omega arith)
 
-  module _ (found : finds ≡ true) {twoway gives : Bool} (twoway-is : twoway ≡ eqb (word img 8) 0)
-      (gives-is : gives ≡ asked (cond twoway Twoway Oneway) (is_name (name_given img id) name)) where
+  module _ (found : finds ≡ true) {mode : Mode} {gives : Bool} (mode_is : mode ≡ mode_in img)
+      (gives_is : gives ≡ asked mode (is_name (name_given img id) name)) where
     kind_is : kind_in img e ≡ kind_of true gives
     unfolding kind_in
     kind_is =
         ap₂ kind_of (sym finds_is ∙ found)
-        (sym (λ i. asked (cond (twoway-is i) Twoway Oneway) (is_name (name_given img (id_is i)) (name_is i))) ∙ sym gives-is)
+        (sym (λ i. asked (mode_is i) (is_name (name_given img (id_is i)) (name_is i))) ∙ sym gives_is)
 
     -- its id gives another name
-    pub other_name : gives ≡ false → value (some (failure 2 at)) ≡ value (first_failure_in img)
+    pub other_name : gives ≡ false → some (failure 2 at) ≡ first_failure_in img
     other_name f = fails 2 (kind_is ∙ ap (kind_of true) f) (λ z. omega arith)
 
     -- both hold, and the walk goes on after it

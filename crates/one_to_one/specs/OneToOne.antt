@@ -10,9 +10,12 @@ use Rattle.image.specs.declared.Mode.TheVariants.{Twoway, Oneway}
 use Rattle.reader.specs.Lookup.{lookup}
 use Rattle.lookup_laws.specs.Answer.{found_id, name_given}
 use Rattle.canonical.specs.Canonical.{canonical, puts_in, mode_in}
-use Rattle.one_to_one.specs.declared.OneToOne.{OneToOne}
-use Rattle.one_to_one.specs.declared.OneToOne.TheVariants as answer
+use Rattle.std.specs.Prelude as answer
+use Rattle.one_to_one.specs.declared.Failure as code
+use Rattle.one_to_one.specs.declared.Failure.TheVariants as failure
+use Rattle.jhash.specs.declared.refusals.Refusal.{Refusal}
 use Rattle.jhash.specs.Refusals as refused
+use Rattle.jhash.specs.Refusals.{number_of}
 
 -- is what was found this id, is what was given this name?
 abbrev pub is_id : Option ℕ → ℕ → Bool
@@ -56,9 +59,12 @@ first_failure_in img = first_failure (kind_in img) head_size (puts_in img)
 unfoldable pub one_to_one : List ℕ → Outcome (Option Failure)
 one_to_one img = cond (canonical img) (value (first_failure_in img)) (refusal refused.not_canonical)
 
--- the number and the values of each case of the answer
-abbrev pub one_to_one_of : OneToOne → Outcome (Option Failure)
-one_to_one_of answer.Yes = value none
-one_to_one_of (answer.OtherId o) = value (some (record { kind = 1; offset = o }))
-one_to_one_of (answer.OtherName o) = value (some (record { kind = 2; offset = o }))
-one_to_one_of (answer.Refused k) = refusal k
+-- what the code's answer says: how the first entry that fails does so, or that none does
+abbrev pub failure_of : answer.Option code.Failure → Option Failure
+failure_of (answer.Some (failure.OtherId o)) = some (record { kind = 1; offset = o })
+failure_of (answer.Some (failure.OtherName o)) = some (record { kind = 2; offset = o })
+failure_of answer.None = none
+
+abbrev pub one_to_one_of : answer.Result (answer.Option code.Failure) Refusal → Outcome (Option Failure)
+one_to_one_of (answer.Ok f) = value (failure_of f)
+one_to_one_of (answer.Err r) = refusal (number_of r)

@@ -1,12 +1,16 @@
 -- Laws of the rule over plain lists: one id of the round, and one pair of the list. Assumes nothing.
-use mathlib.Core.Path.{◌≡◌, refl, ap, ◌∙◌}
-use Prim.Native.Nat.{ℕ, suc, ◌<◌, ◌≤◌}
+use mathlib.Core.Path.{◌≡◌, refl, sym, ap, ◌∙◌}
+use Prim.Native.Nat.{ℕ, zero, suc, ◌+◌, ◌<◌, ◌≤◌}
+use native.Mathlib.Omega.{arith}
 use mathlib.Core.Bool.{Bool, true, false, cond}
-use mathlib.Core.List.{List, ◌∷◌}
+use mathlib.Core.List.{List, [], ◌∷◌}
 use lib.ListN.{length, get_or, drop, drop_of_length-le}
+use Rattle.std.specs.Prelude.{Option, Some, None, MatchOption}
+use Rattle.std.specs.List.{AllWithin, HoldsAt}
 use lib.Seq.{drop-cons}
 use borrow.Author.Tests.{eq-eqb, ne_eqb}
-use Rattle.order.specs.Rule.{occurs, before, kept, all_kept, fails_at, ordered_from}
+use Rattle.order.specs.Rule.{occurs, before, kept, all_kept, fails_at, ordered_from, ordered}
+use Rattle.order.specs.Cases.{verdict_of}
 use Rattle.order.specs.declared.Pair.{Pair}
 
 either : (b : Bool) → cond b true true ≡ true
@@ -62,18 +66,32 @@ module _ (n : ℕ) (p : Pair) (ps : List Pair) (round : List ℕ) where
   unfolding ordered_from
   ordered_fails k = simp k
 
--- ---- the pairs from the place i on; d stands behind the last
-module _ (pairs : List Pair) (round : List ℕ) (d : Pair) (i : ℕ) where
-  pub pairs_end : length pairs ≤ i → ordered_from i (drop i pairs) round ≡ all_kept
+-- ---- the first pair that is not kept, by its place: what a search for it answers
+
+module _ (round : List ℕ) where
+  abbrev Kept : Pair → Type 0
+  Kept p = kept p round ≡ true
+
+  abbrev Fails : Pair → Type 0
+  Fails p = kept p round ≡ false
+
+  all_from : (n : ℕ) (pairs : List Pair) → AllWithin Kept pairs 0 (length pairs) → ordered_from n pairs round ≡ all_kept
   unfolding ordered_from
-  pairs_end h = simp (drop_of_length-le pairs h)
+  all_from n [] h = refl
+  all_from n (p ∷ ps) h =
+      ordered_kept n p ps round (h 0 p (omega arith) (omega arith)) ∙ all_from (suc n) ps (λ k d l u. h (suc k) d (omega arith) (omega arith))
 
-  module _ (h : i < length pairs) where
-    from_pair : ordered_from i (drop i pairs) round ≡ ordered_from i (get_or pairs i d ∷ drop (suc i) pairs) round
-    from_pair = ap (λ (ps : List Pair). ordered_from i ps round) (drop-cons pairs i d h)
+  first_from : (n : ℕ) (pairs : List Pair) (i : ℕ) → i < length pairs → HoldsAt Fails pairs i → AllWithin Kept pairs 0 i
+      → ordered_from n pairs round ≡ fails_at (n + i)
+  first_from n [] i h f k = absurd (omega arith)
+  first_from n (p ∷ ps) zero h f k = ordered_fails n p ps round (f p) ∙ ap fails_at (omega arith)
+  first_from n (p ∷ ps) (suc i) h f k =
+      ordered_kept n p ps round (k 0 p (omega arith) (omega arith))
+      ∙ first_from (suc n) ps i (omega arith) f (λ j d l u. k (suc j) d (omega arith) (omega arith))
+      ∙ ap fails_at (omega arith)
 
-    pub pairs_on : kept (get_or pairs i d) round ≡ true → ordered_from i (drop i pairs) round ≡ ordered_from (suc i) (drop (suc i) pairs) round
-    pairs_on k = from_pair ∙ ordered_kept i (get_or pairs i d) (drop (suc i) pairs) round k
-
-    pub pairs_fail : kept (get_or pairs i d) round ≡ false → ordered_from i (drop i pairs) round ≡ fails_at i
-    pairs_fail k = from_pair ∙ ordered_fails i (get_or pairs i d) (drop (suc i) pairs) round k
+  pub by_first : (pairs : List Pair) (r : Option ℕ)
+      → MatchOption r (AllWithin Kept pairs 0 (length pairs)) (λ i. (i < length pairs) × HoldsAt Fails pairs i × AllWithin Kept pairs 0 i)
+      → verdict_of r ≡ ordered pairs round
+  by_first pairs None h = sym (all_from 0 pairs h)
+  by_first pairs (Some i) h = sym (first_from 0 pairs i h.0 h.1 h.2 ∙ ap fails_at (omega arith))

@@ -6,11 +6,11 @@ use mathlib.Core.Path.{◌≡◌, refl, sym, ap, ◌∙◌}
 use mathlib.Core.Bool.{cond}
 use mathlib.Core.List.{List, [], ◌∷◌, ◌++◌, map}
 use mathlib.Core.Option.{Option, none, some}
-use lib.ListN.{length, set, take, drop, replicate, length-append, length-take, length-map, length-replicate}
+use lib.ListN.{length, set, take, replicate, length-append, length-take, length-map, length-replicate}
 use lib.Seq.{sets, take_all}
 use lib.Dec.{eqb, ltb}
 use Rattle.image.proofs.Stores.{sets_then}
-use Rattle.reader.specs.Naming.{Naming, place, unnamed, naming, bytes_at, name_given}
+use Rattle.reader.specs.Naming.{name_given}
 use Rattle.page.specs.Page.{places, id_field, shown, name_field, line}
 use Rattle.page.proofs.PageStores.{last_first, sets_over, drop-replicate}
 
@@ -30,11 +30,14 @@ last_place out at k n p e =
     ap (λ (x : ℕ). sets (set out (at + k) x) at (places k (n / 10))) e
     ∙ last_first (places k (n / 10)) out at (at + k) (cond (eqb n 0) 32 (48 + n % 10)) (omega (arith, length_places k (n / 10)))
 
-pub place_turn : (out : List ℕ) (at k n p : ℕ) → 0 < k → p ≡ cond (eqb n 0) 32 (48 + n % 10)
-    → sets (set out (at + (k - 1)) p) at (places (k - 1) (n / 10)) ≡ sets out at (places k n)
-place_turn out at k n p h e =
-    let s : suc (k - 1) ≡ k = omega arith in
-    last_place out at (k - 1) n p e ∙ ap (λ (m : ℕ). sets out at (places m n)) s
+-- of nine places, the last of those that are left
+pub place_turn : (out : List ℕ) (at i n p : ℕ) → i < 9 → p ≡ cond (eqb n 0) 32 (48 + n % 10)
+    → sets (set out (at + (8 - i)) p) at (places (9 - (i + 1)) (n / 10)) ≡ sets out at (places (9 - i) n)
+place_turn out at i n p h e =
+    let s : suc (8 - i) ≡ 9 - i = omega arith in
+    let t : 9 - (i + 1) ≡ 8 - i = omega arith in
+    ap (λ (m : ℕ). sets (set out (at + (8 - i)) p) at (places m (n / 10))) t
+    ∙ last_place out at (8 - i) n p e ∙ ap (λ (m : ℕ). sets out at (places m n)) s
 
 -- no place is left
 pub places_end : (out : List ℕ) (at k n : ℕ) → k ≤ 0 → sets out at (places k n) ≡ out
@@ -94,22 +97,15 @@ module _ (name : List ℕ) where
       ∙ ap (λ (l : List ℕ). set l (at + 32) (cond (ltb 32 (length name)) 43 32)) stored
       ∙ sets_then (bytes ++ pad) (cond (ltb 32 (length name)) 43 32 ∷ []) out at (at + 32) (omega arith)
 
--- ---- the name or hyphens, by what naming the id gives
+-- ---- hyphens, where naming the id gives nothing
 
-pub field_named : (image out : List ℕ) (id at s n : ℕ) → place s n ≡ naming image id
-    → sets out at (name_field (some (take (s + n - s) (drop s image)))) ≡ sets out at (name_field (name_given image id))
-field_named image out id at s n e =
-    let k : s + n - s ≡ n = omega arith in
-    ap (λ (m : ℕ). sets out at (name_field (some (take m (drop s image))))) k
-    ∙ ap (λ (p : Naming). sets out at (name_field (bytes_at image p))) e
-
-pub field_unnamed : (image out out₁ : List ℕ) (id at : ℕ) → unnamed ≡ naming image id → out₁ ≡ sets out at (replicate 32 45)
-    → set out₁ (at + 32) 32 ≡ sets out at (name_field (name_given image id))
+pub field_unnamed : (out out₁ : List ℕ) (at : ℕ) (o : Option (List ℕ)) → none ≡ o → out₁ ≡ sets out at (replicate 32 45)
+    → set out₁ (at + 32) 32 ≡ sets out at (name_field o)
 unfolding name_field
-field_unnamed image out out₁ id at e e₁ =
+field_unnamed out out₁ at o e e₁ =
     ap (λ (l : List ℕ). set l (at + 32) 32) e₁
     ∙ sets_then (replicate 32 45) (32 ∷ []) out at (at + 32) (omega (arith, length-replicate {A = ℕ} 32 45))
-    ∙ ap (λ (p : Naming). sets out at (name_field (bytes_at image p))) e
+    ∙ ap (λ (p : Option (List ℕ)). sets out at (name_field p)) e
 
 -- ---- the line
 

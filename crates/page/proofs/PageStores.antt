@@ -2,9 +2,10 @@
 use Prim.Native.Nat.{ℕ, zero, suc, ◌+◌, ◌-◌, ◌≤◌, ◌<◌}
 use native.Mathlib.Omega.{arith}
 use mathlib.Core.Path.{◌≡◌, refl, sym, ap, ◌∙◌}
-use mathlib.Core.List.{List, [], ◌∷◌, ◌++◌, map}
-use lib.ListN.{length, get_or, set, drop, replicate, get_or-map, length-map, drop_of_length-le}
-use lib.Seq.{sets, set_comm, set-set}
+use mathlib.Core.List.{List, [], ◌∷◌, ◌++◌, map, append_assoc}
+use borrow.Rule.Slice.PartMut.{put_mid}
+use lib.ListN.{length, get_or, set, take, drop, replicate, get_or-map, length-map, drop_of_length-le}
+use lib.Seq.{sets, sets-eq, set_comm, set-set, drop-drop}
 use Rattle.image.proofs.Stores.{sets_append, sets_step}
 
 module _ {A : Type 0} where
@@ -43,17 +44,12 @@ module _ {A : Type 0} where
       let e : n - k ≡ suc n - suc k = omega arith in
       drop-replicate k n a ∙ ap (λ (m : ℕ). replicate m a) e
 
--- one more of n equal bytes
-pub repeat_turn : (l : List ℕ) (at j n b : ℕ) → j < n
-    → sets (set l (at + j) b) (at + (j + 1)) (replicate (n - (j + 1)) b) ≡ sets l (at + j) (replicate (n - j) b)
-repeat_turn l at j n b h =
-    let e : at + (j + 1) ≡ suc (at + j) = omega arith in
-    let f : suc (n - (j + 1)) ≡ n - j = omega arith in
-    ap (λ (k : ℕ). sets (set l (at + j) b) k (replicate (n - (j + 1)) b)) e ∙ ap (λ (m : ℕ). sets l (at + j) (replicate m b)) f
-
--- nothing is left of them
-pub repeat_end : (l : List ℕ) (i j n b : ℕ) → n ≤ j → sets l i (replicate (n - j) b) ≡ l
-repeat_end l i j n b h = let z : n - j ≡ 0 = omega arith in ap (λ (m : ℕ). sets l i (replicate m b)) z
+-- a part of a list, where something else of its length stands now
+pub part_stored : (a k : ℕ) (xs ys zs : List ℕ) → a + k ≤ length xs → length zs ≡ k → ys ≡ zs → put_mid a k xs ys ≡ sets xs a zs
+part_stored a k xs ys zs h l e =
+    ap (λ (r : List ℕ). take a xs ++ (r ++ drop k (drop a xs))) e
+    ∙ ap (λ (r : List ℕ). take a xs ++ (zs ++ r)) (drop-drop k a xs ∙ ap (λ (n : ℕ). drop (a + n) xs) (sym l))
+    ∙ sym (rw append_assoc at (sets-eq zs xs a (omega arith)))
 
 -- one more of the bytes that f makes of others
 pub map_turn : (f : ℕ → ℕ) (src l : List ℕ) (i j b : ℕ) → j < length src → b ≡ f (get_or src j 0)

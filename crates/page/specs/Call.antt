@@ -5,8 +5,6 @@ use Rattle.jhash.specs.Outcome.{Outcome, value, refusal}
 use Rattle.reader.specs.Naming.{name_given}
 use Rattle.reader.specs.IdWalk.{upper_hint}
 use Rattle.page.specs.Page.{lines, page}
-use Rattle.page.specs.declared.Printed.{Printed}
-use Rattle.page.specs.declared.Printed.TheVariants.{Length, Refused}
 use Rattle.jhash.specs.Refusals as refused
 
 -- ---- n lines from id `first` on, for an output buffer
@@ -55,8 +53,3 @@ part_printing image first count room = printing_lines (part_lines image first co
 unfoldable pub after_part : List ℕ → ℕ → ℕ → List ℕ → List ℕ
 unfolding after_lines
 after_part image first count out = after_lines (name_given image) first (part_lines image first count) out
-
--- the number and the value of each case of the answer
-abbrev pub printed_of : Printed → Outcome ℕ
-printed_of (Length n) = value n
-printed_of (Refused k) = refusal k

@@ -1,11 +1,11 @@
 // One line of the page.
-ghost use Rattle.std.specs.Prelude.{◌≡◌, cond, map, ◌+◌, ◌%◌, ◌≤◌, min, length, replicate, eqb, ltb};
+ghost use Rattle.std.specs.Prelude.{◌≡◌, cond, map, ◌+◌, ◌%◌, ◌≤◌, length, replicate, eqb, ltb};
 ghost use Rattle.std.proofs.Math.Option.{some};
 ghost use Rattle.std.proofs.lemmas.List.Edits.{sets};
 ghost use Rattle.reader.specs.Naming.{name_given};
 ghost use Rattle.page.specs.Page.{id_field, shown, name_field, line};
 
-use reader::{Named, to_str};
+use reader::name_given;
 
 // The lowest digit of a number.
 fn digit(n: u32) -> u8
@@ -28,11 +28,9 @@ fn print_number(out: &mut [u8], at: usize, id: u32)
 {
     out[at + 9] = digit(id);
     let mut n = id / 10;
-    let mut left: usize = 9;
-    while left > 0 {
-        left -= 1;
-        out[at + left] = digit_or_space(n);
-        n = n / 10;
+    for i in 0..9 {
+        out[at + (8 - i)] = digit_or_space(n);
+        n /= 10;
     }
 }
 
@@ -40,12 +38,10 @@ fn print_number(out: &mut [u8], at: usize, id: u32)
 fn show(b: u8) -> u8
     ensures { result ≡ shown b }
 {
-    if 32 <= b {
-        if b <= 126 {
-            return b;
-        }
+    match b {
+        32..=126 => b,
+        _ => b'.',
     }
-    b'.'
 }
 
 // Bytes as they are printed, from `at` on.
@@ -53,10 +49,8 @@ fn show_all(out: &mut [u8], at: usize, bytes: &[u8])
     requires { at + length bytes.now ≤ length out.old }
     ensures { out.new ≡ sets out.old at (map shown bytes.now) }
 {
-    let mut j = 0;
-    while j < bytes.len() {
-        out[at + j] = show(bytes[j]);
-        j += 1;
+    for (j, b) in bytes.iter().enumerate() {
+        out[at + j] = show(*b);
     }
 }
 
@@ -65,18 +59,7 @@ fn repeat(out: &mut [u8], at: usize, b: u8)
     requires { at + 32 ≤ length out.old }
     ensures { out.new ≡ sets out.old at (replicate 32 b) }
 {
-    let mut j: usize = 0;
-    while j < 32 {
-        out[at + j] = b;
-        j += 1;
-    }
-}
-
-// How many bytes of a name are printed.
-fn printed_length(len: usize) -> usize
-    ensures { result ≡ min 32 len }
-{
-    if 32 < len { 32 } else { len }
+    out[at..at + 32].fill(b);
 }
 
 // The sign behind a name: a plus where it was longer.
@@ -92,7 +75,7 @@ fn print_name(out: &mut [u8], at: usize, name: &[u8])
     ensures { out.new ≡ sets out.old at (name_field (some name.now)) }
 {
     repeat(&mut *out, at, b' ');
-    let n = printed_length(name.len());
+    let n = name.len().min(32);
     show_all(&mut *out, at, &name[..n]);
     out[at + 32] = mark(name.len());
 }
@@ -102,9 +85,9 @@ fn print_field(out: &mut [u8], at: usize, image: &[u8], id: u32)
     requires { at + 33 ≤ length out.old }
     ensures { out.new ≡ sets out.old at (name_field (name_given image.now id)) }
 {
-    match to_str(image, id) {
-        Named::Place { start, len } => print_name(&mut *out, at, &image[start..start + len]),
-        Named::Nothing => {
+    match name_given(image, id) {
+        Some(name) => print_name(&mut *out, at, name),
+        None => {
             repeat(&mut *out, at, b'-');
             out[at + 32] = b' ';
         }

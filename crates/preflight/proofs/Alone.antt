@@ -21,9 +21,9 @@ use Rattle.preflight.specs.Exchanges.{first_shared_in}
 use Rattle.preflight.specs.OnSheet.{off_sheet, first_off, of_off, of_sheet}
 use Rattle.preflight.specs.Verdicts.{is_whole, and_then, of_nameless, of_shared, of_round, verdict_first}
 use Rattle.preflight.specs.Theorems.Asked.{In, Whole, OnSheet, RoundNamed, MayLeaveFirst}
-use Rattle.preflight.specs.declared.Verdict.{Verdict}
-use Rattle.preflight.specs.declared.Verdict.TheVariants as verdict
-use Rattle.preflight.specs.declared.Verdict.TheVariants.{Yes, NewRefused, EmptyRound}
+use Rattle.preflight.specs.Answers.Verdict.{Verdict}
+use Rattle.preflight.specs.Answers.Verdict as verdict
+use Rattle.preflight.specs.Answers.Verdict.{Yes, NewRefused, EmptyRound}
 use Rattle.preflight.proofs.Members.{passing_append, none_counted, counted_none, none_passes, passes_none}
 use Rattle.preflight.proofs.Questions as asked
 use Rattle.preflight.proofs.Yes.{no_yes, both, both_back, unless, nameless_none, shared_none, off_none}

@@ -19,13 +19,29 @@ use Rattle.preflight.specs.OnSheet.{first_off, of_off, of_sheet}
 use Rattle.preflight.specs.Verdicts.{is_whole, is_yes, and_then, of_nameless, of_shared, of_renamed, of_taken}
 use Rattle.preflight.specs.Verdicts.{of_round, of_changes, verdict_first, verdict}
 use Rattle.preflight.specs.Preflight.{if_yes, answer_of}
-use Rattle.preflight.specs.declared.Answer.{Answer}
-use Rattle.preflight.specs.declared.Place.{Place}
-use Rattle.preflight.specs.declared.Place.TheVariants as place
-use Rattle.preflight.specs.declared.Shared.{Shared}
-use Rattle.preflight.specs.declared.Taken.{Taken}
-use Rattle.preflight.specs.declared.Verdict.{Verdict}
-use Rattle.preflight.specs.declared.Verdict.TheVariants.{NewRefused, SheetRefused, EmptyRound, Nameless, OldRefused, NothingAlike, Renamed}
+use Rattle.preflight.specs.declared.Objection.{Objection}
+use Rattle.preflight.specs.declared.Objection.TheVariants as objection
+use Rattle.preflight.specs.Cases.{objection_of}
+use Rattle.preflight.specs.Answers.Answer.{Answer}
+use Rattle.preflight.specs.Answers.Place.{Place}
+use Rattle.preflight.specs.Answers.Place as place
+use Rattle.preflight.specs.Answers.Shared.{Shared}
+use Rattle.preflight.specs.Answers.Taken.{Taken}
+use Rattle.preflight.specs.Answers.Verdict.{Verdict}
+use Rattle.preflight.specs.Answers.Verdict.{NewRefused, SheetRefused, EmptyRound, Nameless, OldRefused, NothingAlike, Renamed}
+
+-- an objection is no yes
+pub objects : (o : Objection) → is_yes (objection_of o) ≡ false
+objects objection.NewRefused = refl
+objects (objection.SheetRefused r) = refl
+objects (objection.OffSheet p) = refl
+objects objection.EmptyRound = refl
+objects (objection.Nameless p) = refl
+objects (objection.OneName s) = refl
+objects objection.OldRefused = refl
+objects objection.NothingAlike = refl
+objects (objection.Renamed p) = refl
+objects (objection.NameTaken t) = refl
 
 -- ---- the round by the new image
 module _ (new : Names) (round : List ℕ) where

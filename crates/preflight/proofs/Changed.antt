@@ -12,10 +12,10 @@ use Rattle.preflight.specs.Names.{first_renamed}
 use Rattle.preflight.specs.Exchanges.{some_kept_in, first_taken_in}
 use Rattle.preflight.specs.Verdicts.{is_whole, and_then, of_renamed, of_taken, of_changes, verdict_first, verdict}
 use Rattle.preflight.specs.Theorems.Asked.{Whole, SomeAlike, NotRenamed, NotTaken, MayLeave}
-use Rattle.preflight.specs.declared.Place.{Place}
-use Rattle.preflight.specs.declared.Taken.TheVariants as taken
-use Rattle.preflight.specs.declared.Verdict.{Verdict}
-use Rattle.preflight.specs.declared.Verdict.TheVariants.{Yes, OldRefused, NothingAlike}
+use Rattle.preflight.specs.Answers.Place.{Place}
+use Rattle.preflight.specs.Answers.Taken as taken
+use Rattle.preflight.specs.Answers.Verdict.{Verdict}
+use Rattle.preflight.specs.Answers.Verdict.{Yes, OldRefused, NothingAlike}
 use Rattle.preflight.proofs.Given.{none_above}
 use Rattle.preflight.proofs.Questions as asked
 use Rattle.preflight.proofs.Yes.{both, both_back, unless, renamed_none, taken_none}

@@ -22,12 +22,11 @@ use Rattle.sheet.proofs.CountsAndIds.{length_ids}
 use Rattle.preflight.specs.Ids.{is_id, occurs, passing, count}
 use Rattle.preflight.specs.Counts.{absent, unsighted_in}
 use Rattle.preflight.specs.OnSheet.{of_sheet}
-use Rattle.preflight.specs.Steps.Contracts.{OneOf}
 use Rattle.preflight.specs.Steps.Distinct.{distinct}
 use Rattle.preflight.specs.Theorems.Asked.{In}
-use Rattle.preflight.specs.declared.Verdict.TheVariants.{Yes}
+use Rattle.preflight.specs.Answers.Verdict.{Yes}
 use Rattle.preflight.proofs.Members.{passing_append, none_counted}
-use Rattle.preflight.proofs.Tallies.{others}
+use Rattle.preflight.proofs.Tallies.{OneOf, one_so, one_not, others}
 use Rattle.preflight.proofs.Alone.{sheet_forth}
 
 -- ---- the loop: the first i places are counted
@@ -60,6 +59,19 @@ module _ (round : List ℕ) where
           ∙ ap (λ (k : ℕ). cond (absent (drop k round) (get_or round i 0)) 1 0 + distinct (drop k round)) (add-one i)
           ∙ one_more (occurs (get_or round i 0) (drop (suc i) round)) (distinct (drop (suc i) round))
           ∙ sym (ap distinct (drop-cons round i 0 h))
+
+  -- by whether the id follows once more
+  pub distinct_yes : (seen after i : ℕ) → DistinctInv round seen i → i < length round
+      → occurs (get_or round i 0) (take (length round - (i + 1)) (drop (i + 1) round)) ≡ false → after ≡ seen + 1 → DistinctInv round after (i + 1)
+  distinct_yes seen after i v h t e =
+      let n = distinct_on seen i 1 v h (one_so _ (ap not t)) in
+      record { is = omega (arith, n.is, e); most = omega (arith, n.most, e) }
+
+  pub distinct_no : (seen after i : ℕ) → DistinctInv round seen i → i < length round
+      → occurs (get_or round i 0) (take (length round - (i + 1)) (drop (i + 1) round)) ≡ true → after ≡ seen → DistinctInv round after (i + 1)
+  distinct_no seen after i v h t e =
+      let n = distinct_on seen i 0 v h (one_not _ (ap not t)) in
+      record { is = omega (arith, n.is, e); most = omega (arith, n.most, e) }
 
   pub distinct_ends : (seen i : ℕ) → DistinctInv round seen i → length round ≤ i → seen ≡ distinct round
   unfolding distinct

@@ -16,10 +16,10 @@ use Rattle.preflight.specs.Names.{Names, is_empty, is_name, other_has, first_oth
 use Rattle.preflight.specs.Exchanges.{shared_or, first_shared, first_shared_in, taker_of, taken_or, first_taken, first_taken_in}
 use Rattle.preflight.specs.Theorems.Asked.{In}
 use Rattle.preflight.specs.Theorems.Fails.{ShowsNameless, ShowsShared, ShowsRenamed, ShowsTaken}
-use Rattle.preflight.specs.declared.Place.{Place}
-use Rattle.preflight.specs.declared.Place.TheVariants as place
-use Rattle.preflight.specs.declared.Shared.TheVariants as shared
-use Rattle.preflight.specs.declared.Taken.TheVariants as taken
+use Rattle.preflight.specs.Answers.Place.{Place}
+use Rattle.preflight.specs.Answers.Place as place
+use Rattle.preflight.specs.Answers.Shared as shared
+use Rattle.preflight.specs.Answers.Taken as taken
 use Rattle.preflight.proofs.Members.{at_nothing, in_occurs}
 use Rattle.preflight.proofs.Questions as asked
 

@@ -16,9 +16,9 @@ use Rattle.validity.proofs.Theorem.{seasons, some_added, none_added}
 use Rattle.preflight.specs.Dates.{holds_both, outside, first_outside, of_outside, preflight_dates}
 use Rattle.preflight.specs.Theorems.Asked.{In}
 use Rattle.preflight.specs.Theorems.Held.{Holds, DatesAccepted, DatesHeld}
-use Rattle.preflight.specs.declared.Place.{Place}
-use Rattle.preflight.specs.declared.Place.TheVariants as place
-use Rattle.preflight.specs.declared.dates.DatesAnswer.TheVariants.{Yes, Refused}
+use Rattle.preflight.specs.Answers.Place.{Place}
+use Rattle.preflight.specs.Answers.Place as place
+use Rattle.preflight.specs.Answers.DatesAnswer.{Yes, Refused}
 use Rattle.preflight.proofs.Members.{none_passes, passes_none}
 use Rattle.preflight.proofs.Windows.{invalid_by, inverted_by, dates_by}
 

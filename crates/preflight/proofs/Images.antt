@@ -25,7 +25,7 @@ use Rattle.preflight.specs.Verdicts.{is_whole, and_then, of_round, of_names, of_
 use Rattle.preflight.specs.Counts.{compared_in, added_in, unsighted_in}
 use Rattle.preflight.specs.Preflight.{answer_of, preflight}
 use Rattle.preflight.specs.Theorems.Theorem.{names_of, verdict_by_puts, by_puts}
-use Rattle.preflight.specs.declared.Verdict.TheVariants.{NewRefused, OldRefused}
+use Rattle.preflight.specs.Answers.Verdict.{NewRefused, OldRefused}
 use Rattle.preflight.proofs.Alone.{whole_back}
 
 module _ (img : List ℕ) (m : Made img) (two : m.mode ≡ Twoway) where

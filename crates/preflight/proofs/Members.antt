@@ -10,7 +10,7 @@ use borrow.Author.Tests.{eqb-true, eqb-false}
 use Rattle.image.proofs.Bools.{false_not_true}
 use Rattle.preflight.specs.Ids.{occurs, passing, count, first_place}
 use Rattle.preflight.specs.Theorems.Asked.{In}
-use Rattle.preflight.specs.declared.Place.TheVariants.{At, Nothing}
+use Rattle.preflight.specs.Answers.Place.{At, Nothing}
 
 pub at_nothing : {P : Type 0} (p : ℕ) → At p ≡ Nothing → P
 at_nothing p e = let z : ◌≡◌ {A = ℕ} 0 1 = cc in absurd (omega arith)

@@ -17,10 +17,10 @@ use Rattle.preflight.specs.Names.{Names, is_empty, is_name, kept_name, kept, los
 use Rattle.preflight.specs.Names.{first_renamed}
 use Rattle.preflight.specs.Exchanges.{shared_or, first_shared, some_kept, taker_of, taken_or, first_taken}
 use Rattle.preflight.specs.Theorems.Asked.{In}
-use Rattle.preflight.specs.declared.Place.{Place}
-use Rattle.preflight.specs.declared.Place.TheVariants as place
-use Rattle.preflight.specs.declared.Shared.TheVariants as shared
-use Rattle.preflight.specs.declared.Taken.TheVariants as taken
+use Rattle.preflight.specs.Answers.Place.{Place}
+use Rattle.preflight.specs.Answers.Place as place
+use Rattle.preflight.specs.Answers.Shared as shared
+use Rattle.preflight.specs.Answers.Taken as taken
 use Rattle.preflight.proofs.Members.{occurs_in, in_occurs, none_passes, passes_none}
 
 pub none_some : {P : Type 0} (x : List ℕ) → none ≡ some x → P

@@ -28,8 +28,8 @@ use Rattle.preflight.specs.Counts.{compared_in, added_in, unsighted_in}
 use Rattle.preflight.specs.Preflight.{answer_of}
 use Rattle.preflight.specs.Theorems.Asked.{Whole}
 use Rattle.preflight.specs.Examples.Rows.{A, B, listed, this_week, damaged, one_way, no_catalogues, RefusedAsOld, RefusedAsNew, FirstLeaves}
-use Rattle.preflight.specs.declared.Verdict.{Verdict}
-use Rattle.preflight.specs.declared.Verdict.TheVariants.{Yes}
+use Rattle.preflight.specs.Answers.Verdict.{Verdict}
+use Rattle.preflight.specs.Answers.Verdict.{Yes}
 use Rattle.preflight.proofs.Alone.{whole_forth, first_forth}
 use Rattle.preflight.proofs.Answers.{first_refused}
 use Rattle.preflight.proofs.Images.{first_by_puts}

@@ -17,14 +17,14 @@ use Rattle.preflight.specs.OnSheet.{off_sheet, first_off, of_off, of_sheet}
 use Rattle.preflight.specs.Verdicts.{is_whole, and_then, of_nameless, of_shared, of_renamed, of_taken, of_round, of_changes, verdict_first, verdict}
 use Rattle.preflight.specs.Theorems.Asked.{Whole, OnSheet, SomeAlike, NotRenamed, MayLeaveFirst}
 use Rattle.preflight.specs.Theorems.Fails.{Says, VerdictSays}
-use Rattle.preflight.specs.declared.Place.{Place}
-use Rattle.preflight.specs.declared.Place.TheVariants as place
-use Rattle.preflight.specs.declared.Shared.{Shared}
-use Rattle.preflight.specs.declared.Shared.TheVariants as shared
-use Rattle.preflight.specs.declared.Taken.{Taken}
-use Rattle.preflight.specs.declared.Taken.TheVariants as taken
-use Rattle.preflight.specs.declared.Verdict.{Verdict}
-use Rattle.preflight.specs.declared.Verdict.TheVariants.{NewRefused, EmptyRound, OldRefused, NothingAlike}
+use Rattle.preflight.specs.Answers.Place.{Place}
+use Rattle.preflight.specs.Answers.Place as place
+use Rattle.preflight.specs.Answers.Shared.{Shared}
+use Rattle.preflight.specs.Answers.Shared as shared
+use Rattle.preflight.specs.Answers.Taken.{Taken}
+use Rattle.preflight.specs.Answers.Taken as taken
+use Rattle.preflight.specs.Answers.Verdict.{Verdict}
+use Rattle.preflight.specs.Answers.Verdict.{NewRefused, EmptyRound, OldRefused, NothingAlike}
 use Rattle.preflight.proofs.Answers.{round_shared}
 use Rattle.preflight.proofs.Members.{none_passes}
 use Rattle.preflight.proofs.Questions as asked

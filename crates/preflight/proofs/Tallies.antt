@@ -2,7 +2,7 @@
 use Prim.Native.Nat.{ℕ, suc, ◌+◌, ◌-◌, ◌/◌, ◌≤◌, ◌<◌}
 use native.Mathlib.Omega.{arith}
 use native.Mathlib.Numerals.{add-one}
-use mathlib.Core.Path.{◌≡◌, refl, sym, ap, ◌∙◌, subst}
+use mathlib.Core.Path.{◌≡◌, refl, sym, ap, ◌∙◌}
 use mathlib.Core.Bool.{Bool, true, false, cond, not}
 use mathlib.Core.List.{List, [], ◌∷◌}
 use lib.Dec.{eqb}
@@ -13,7 +13,18 @@ use Rattle.sheet.specs.SheetReading.{ids_in}
 use Rattle.sheet.proofs.CountsAndIds.{length_ids}
 use Rattle.preflight.specs.Ids.{passing, count}
 use Rattle.preflight.specs.OnSheet.{off_sheet}
-use Rattle.preflight.specs.Steps.Contracts.{OneOf, Tallied, PartTallied}
+use Rattle.preflight.specs.Steps.Contracts.{Tallied, PartTallied}
+
+-- 1 where it is so, else 0
+pub record OneOf (t : Bool) (r : ℕ) : Type 0 where
+  pub is : r ≡ cond t 1 0
+  pub most : r ≤ 1
+
+pub one_so : (t : Bool) → t ≡ true → OneOf t 1
+one_so t e = record { is = sym (ap (λ (b : Bool). cond b 1 0) e); most = omega arith }
+
+pub one_not : (t : Bool) → t ≡ false → OneOf t 0
+one_not t e = record { is = sym (ap (λ (b : Bool). cond b 1 0) e); most = omega arith }
 
 one_more : (t : Bool) (k : ℕ) → cond t 1 0 + k ≡ cond t (suc k) k
 one_more true k = omega arith
@@ -42,6 +53,19 @@ module _ (test : ℕ → Bool) (xs : List ℕ) where
       let t = turn i r h o.is in
       record { is = omega (arith, v.is, t); most = omega (arith, v.most, o.most); inside = omega (arith, h) }
 
+  -- by the test's two answers
+  pub tally_yes : (seen after i : ℕ) → TallyInv test xs seen i → i < length xs → test (get_or xs i 0) ≡ true → after ≡ seen + 1
+      → TallyInv test xs after (i + 1)
+  tally_yes seen after i v h t e =
+      let n = tallies_on seen i 1 v h (one_so _ t) in
+      record { is = omega (arith, n.is, e); most = omega (arith, n.most, e); inside = n.inside }
+
+  pub tally_no : (seen after i : ℕ) → TallyInv test xs seen i → i < length xs → test (get_or xs i 0) ≡ false → after ≡ seen
+      → TallyInv test xs after (i + 1)
+  tally_no seen after i v h t e =
+      let n = tallies_on seen i 0 v h (one_not _ t) in
+      record { is = omega (arith, n.is, e); most = omega (arith, n.most, e); inside = n.inside }
+
   pub tallied : (seen i : ℕ) → TallyInv test xs seen i → length xs ≤ i → Tallied test xs seen
   unfolding passing
   tallied seen i v h =
@@ -66,11 +90,17 @@ abbrev pub PartInv : (ℕ → Bool) → List ℕ → ℕ → ℕ → Type 0
 PartInv test part seen i = TallyInv test (ids_in part) seen i
 
 module _ (test : ℕ → Bool) (part : List ℕ) where
-  pub part_on : (seen i x r : ℕ) → PartInv test part seen i → i < length part / 4 → x ≡ get_or (ids_in part) i 0 → OneOf (test x) r
-      → PartInv test part (seen + r) (i + 1)
-  part_on seen i x r v h e o =
+  pub part_yes : (seen after i x : ℕ) → PartInv test part seen i → i < length part / 4 → x ≡ get_or (ids_in part) i 0 → test x ≡ true → after ≡ seen + 1
+      → PartInv test part after (i + 1)
+  part_yes seen after i x v h e t f =
       let l = length_ids (length part / 4) part in
-      tallies_on test (ids_in part) seen i r v (omega (arith, l, h)) (subst (λ (y : ℕ). OneOf (test y) r) e o)
+      tally_yes test (ids_in part) seen after i v (omega (arith, l, h)) (ap test (sym e) ∙ t) f
+
+  pub part_no : (seen after i x : ℕ) → PartInv test part seen i → i < length part / 4 → x ≡ get_or (ids_in part) i 0 → test x ≡ false → after ≡ seen
+      → PartInv test part after (i + 1)
+  part_no seen after i x v h e t f =
+      let l = length_ids (length part / 4) part in
+      tally_no test (ids_in part) seen after i v (omega (arith, l, h)) (ap test (sym e) ∙ t) f
 
   pub part_tallied : (seen i : ℕ) → PartInv test part seen i → length part / 4 ≤ i → PartTallied test part seen
   part_tallied seen i v h =

@@ -19,7 +19,7 @@ use Rattle.preflight.specs.Verdicts.{is_whole, of_changes, verdict_first, verdic
 use Rattle.preflight.specs.Theorems.Theorem as theorem
 use Rattle.preflight.specs.Theorems.Theorem.{Leaves}
 use Rattle.preflight.specs.Theorems.Asked.{In, Whole, SomeAlike, MayLeaveFirst, MayLeave, Exchanged, Cycle, OneIdEach, Fresh}
-use Rattle.preflight.specs.declared.Verdict.TheVariants.{NewRefused, OldRefused, NothingAlike}
+use Rattle.preflight.specs.Answers.Verdict.{NewRefused, OldRefused, NothingAlike}
 use Rattle.preflight.proofs.Questions.{none_some}
 use Rattle.preflight.proofs.Alone.{whole_forth, whole_back, first_forth, first_back}
 use Rattle.preflight.proofs.Changed.{alike_forth, forth, back}

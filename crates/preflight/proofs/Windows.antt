@@ -11,8 +11,8 @@ use Rattle.validity.specs.Rule.{some_window, invalid_dates, inverted, holds_date
 use Rattle.validity.specs.declared.Date.{Date}
 use Rattle.validity.specs.declared.Window.{Window}
 use Rattle.preflight.specs.Dates.{date_of, window_at, windows_from, windows_in, first_outside, of_outside, preflight_dates}
-use Rattle.preflight.specs.declared.Place.{Place}
-use Rattle.preflight.specs.declared.dates.DatesAnswer.TheVariants.{Refused}
+use Rattle.preflight.specs.Answers.Place.{Place}
+use Rattle.preflight.specs.Answers.DatesAnswer.{Refused}
 
 -- ---- one window, by the tests of its dates
 module _ (w : Window) where

@@ -4,15 +4,15 @@ use mathlib.Core.Bool.{Bool, true, false, cond}
 use Rattle.image.proofs.Bools.{false_not_true}
 use Rattle.preflight.specs.OnSheet.{of_off}
 use Rattle.preflight.specs.Verdicts.{is_yes, and_then, of_nameless, of_shared, of_renamed, of_taken}
-use Rattle.preflight.specs.declared.Place.{Place}
-use Rattle.preflight.specs.declared.Place.TheVariants as place
-use Rattle.preflight.specs.declared.Shared.{Shared}
-use Rattle.preflight.specs.declared.Shared.TheVariants as shared
-use Rattle.preflight.specs.declared.Taken.{Taken}
-use Rattle.preflight.specs.declared.Taken.TheVariants as taken
-use Rattle.preflight.specs.declared.Verdict.{Verdict}
-use Rattle.preflight.specs.declared.Verdict.TheVariants as verdict
-use Rattle.preflight.specs.declared.Verdict.TheVariants.{Yes}
+use Rattle.preflight.specs.Answers.Place.{Place}
+use Rattle.preflight.specs.Answers.Place as place
+use Rattle.preflight.specs.Answers.Shared.{Shared}
+use Rattle.preflight.specs.Answers.Shared as shared
+use Rattle.preflight.specs.Answers.Taken.{Taken}
+use Rattle.preflight.specs.Answers.Taken as taken
+use Rattle.preflight.specs.Answers.Verdict.{Verdict}
+use Rattle.preflight.specs.Answers.Verdict as verdict
+use Rattle.preflight.specs.Answers.Verdict.{Yes}
 
 pub no_yes : {P : Type 0} (a : Verdict) → is_yes a ≡ false → a ≡ Yes → P
 no_yes a h e = absurd (false_not_true (sym h ∙ ap is_yes e))

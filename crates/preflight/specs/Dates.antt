@@ -6,10 +6,10 @@ use Rattle.validity.specs.Rule.{some_window, invalid_dates, inverted, holds_date
 use Rattle.validity.specs.declared.Date.{Date}
 use Rattle.validity.specs.declared.Window.{Window}
 use Rattle.preflight.specs.Ids.{first_place}
-use Rattle.preflight.specs.declared.Place.{Place}
-use Rattle.preflight.specs.declared.Place.TheVariants as place
-use Rattle.preflight.specs.declared.dates.DatesAnswer.{DatesAnswer}
-use Rattle.preflight.specs.declared.dates.DatesAnswer.TheVariants.{Yes, Refused, Outside}
+use Rattle.preflight.specs.Answers.Place.{Place}
+use Rattle.preflight.specs.Answers.Place as place
+use Rattle.preflight.specs.Answers.DatesAnswer.{DatesAnswer}
+use Rattle.preflight.specs.Answers.DatesAnswer.{Yes, Refused, Outside}
 use Rattle.jhash.specs.Refusals as refused
 
 -- a window of the id that holds both dates

@@ -1,7 +1,7 @@
 -- Ids of a list: whether one is in it, how many pass a test, and the place of the first that does.
 use Rattle.std.specs.Prelude.{ℕ, suc, Bool, true, false, cond, List, [], ◌∷◌, eqb}
-use Rattle.preflight.specs.declared.Place.{Place}
-use Rattle.preflight.specs.declared.Place.TheVariants.{At, Nothing}
+use Rattle.preflight.specs.Answers.Place.{Place}
+use Rattle.preflight.specs.Answers.Place.{At, Nothing}
 
 -- is x this id?
 abbrev pub is_id : ℕ → ℕ → Bool

@@ -1,4 +1,6 @@
 -- What the functions answer, and what is proved of it.
+pub mod Answers
+pub mod Cases
 pub mod Ids
 pub mod Names
 pub mod Exchanges

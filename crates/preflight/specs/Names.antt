@@ -5,8 +5,8 @@ use Rattle.std.proofs.Math.Option.{Option, none, some}
 -- is it this name?
 pub use Rattle.one_to_one.specs.OneToOne.{is_name}
 use Rattle.preflight.specs.Ids.{is_id, occurs, first_place}
-use Rattle.preflight.specs.declared.Place.{Place}
-use Rattle.preflight.specs.declared.Place.TheVariants.{Nothing}
+use Rattle.preflight.specs.Answers.Place.{Place}
+use Rattle.preflight.specs.Answers.Place.{Nothing}
 
 abbrev pub Names : Type 0
 Names = ℕ → Option (List ℕ)

@@ -3,10 +3,10 @@ use Rattle.std.specs.Prelude.{ℕ, ◌+◌, Bool, true, cond, not, List, eqb}
 use Rattle.jhash.specs.Outcome.{Outcome, value, refusal}
 use Rattle.sheet.specs.Format.{Lists}
 use Rattle.preflight.specs.Ids.{count, first_place}
-use Rattle.preflight.specs.declared.Place.{Place}
-use Rattle.preflight.specs.declared.Place.TheVariants as place
-use Rattle.preflight.specs.declared.Verdict.{Verdict}
-use Rattle.preflight.specs.declared.Verdict.TheVariants.{Yes, SheetRefused, OffSheet}
+use Rattle.preflight.specs.Answers.Place.{Place}
+use Rattle.preflight.specs.Answers.Place as place
+use Rattle.preflight.specs.Answers.Verdict.{Verdict}
+use Rattle.preflight.specs.Answers.Verdict.{Yes, SheetRefused, OffSheet}
 
 -- 3: "each id of the round occurs exactly once in the whole sheet, and as a reference or a wall"
 unfoldable pub off_sheet : List ℕ → List ℕ → List ℕ → ℕ → Bool

@@ -4,8 +4,8 @@ use Rattle.reader.specs.Naming.{name_given}
 use Rattle.sheet.specs.SheetReading.{read_lists}
 use Rattle.preflight.specs.Verdicts.{is_yes, verdict_first, verdict}
 use Rattle.preflight.specs.Counts.{compared_in, added_in, unsighted_in}
-use Rattle.preflight.specs.declared.Answer.{Answer}
-use Rattle.preflight.specs.declared.Verdict.{Verdict}
+use Rattle.preflight.specs.Answers.Answer.{Answer}
+use Rattle.preflight.specs.Answers.Verdict.{Verdict}
 
 -- a no has no counts
 abbrev pub if_yes : Verdict → ℕ → ℕ

@@ -11,16 +11,16 @@ use Rattle.sheet.specs.SheetReading.{read_lists}
 use Rattle.preflight.specs.Names.{Names, first_nameless, first_renamed}
 use Rattle.preflight.specs.OnSheet.{of_sheet}
 use Rattle.preflight.specs.Exchanges.{first_shared_in, some_kept, first_taken}
-use Rattle.preflight.specs.declared.Place.{Place}
-use Rattle.preflight.specs.declared.Place.TheVariants as place
-use Rattle.preflight.specs.declared.Shared.{Shared}
-use Rattle.preflight.specs.declared.Shared.TheVariants as shared
-use Rattle.preflight.specs.declared.Taken.{Taken}
-use Rattle.preflight.specs.declared.Taken.TheVariants as taken
-use Rattle.preflight.specs.declared.Verdict.{Verdict}
-use Rattle.preflight.specs.declared.Verdict.TheVariants.{Yes, NewRefused, SheetRefused, OffSheet, EmptyRound}
-use Rattle.preflight.specs.declared.Verdict.TheVariants.{Nameless, OneName, OldRefused, NothingAlike, Renamed}
-use Rattle.preflight.specs.declared.Verdict.TheVariants.{NameTaken}
+use Rattle.preflight.specs.Answers.Place.{Place}
+use Rattle.preflight.specs.Answers.Place as place
+use Rattle.preflight.specs.Answers.Shared.{Shared}
+use Rattle.preflight.specs.Answers.Shared as shared
+use Rattle.preflight.specs.Answers.Taken.{Taken}
+use Rattle.preflight.specs.Answers.Taken as taken
+use Rattle.preflight.specs.Answers.Verdict.{Verdict}
+use Rattle.preflight.specs.Answers.Verdict.{Yes, NewRefused, SheetRefused, OffSheet, EmptyRound}
+use Rattle.preflight.specs.Answers.Verdict.{Nameless, OneName, OldRefused, NothingAlike, Renamed}
+use Rattle.preflight.specs.Answers.Verdict.{NameTaken}
 
 -- 1, 7: "canonical and two-way": its flag word is 0
 abbrev pub is_whole : List ℕ → Bool

@@ -2,44 +2,27 @@
 ghost use Rattle.std.specs.Prelude.{◌≡◌};
 ghost use Rattle.reader.specs.Naming.{name_given};
 ghost use Rattle.sheet.specs.SheetReading.{read_lists};
-ghost use Rattle.preflight.specs.Counts.{is_given, names, absent, unsighted_in};
+ghost use Rattle.preflight.specs.Counts.{names, unsighted_in};
 ghost use Rattle.preflight.specs.OnSheet.{of_sheet};
-ghost use Rattle.preflight.specs.Steps.Contracts.{OneOf, Tallied};
+ghost use Rattle.preflight.specs.Steps.Contracts.{Tallied};
 ghost use Rattle.preflight.specs.Steps.Distinct.{distinct};
-ghost use Rattle.preflight.specs.declared.Verdict.TheVariants.{Yes};
+ghost use Rattle.preflight.specs.Answers.Verdict.{Yes};
 
 use super::names::occurs;
-use reader::{Named, to_str};
+use reader::name_given;
 use sheet::{Which, section};
-
-// 1 where the image names the id, else 0.
-fn one_if_named(image: &[u8], id: u32) -> usize
-    ensures { OneOf (is_given (name_given image.now id)) result }
-{
-    match to_str(image, id) {
-        Named::Place { start, len } => 1,
-        Named::Nothing => 0,
-    }
-}
 
 // How many places of the round have an id that the old image names, so that it is compared.
 pub(crate) fn compared(old: &[u8], round: &[u32]) -> usize
     ensures { Tallied (names (name_given old.now)) round.now result }
 {
     let mut seen: usize = 0;
-    let mut i: usize = 0;
-    while i < round.len() {
-        seen += one_if_named(old, round[i]);
-        i += 1;
+    for id in round {
+        if name_given(old, *id).is_some() {
+            seen += 1;
+        }
     }
     seen
-}
-
-// 1 where the id is not in the round, else 0.
-fn one_if_absent(round: &[u32], id: u32) -> usize
-    ensures { OneOf (absent round.now id) result }
-{
-    if occurs(round, id) { 0 } else { 1 }
 }
 
 // How many different ids the round has: the places whose id does not follow once more.
@@ -47,10 +30,10 @@ fn distinct(round: &[u32]) -> usize
     ensures { result ≡ distinct round.now }
 {
     let mut seen: usize = 0;
-    let mut i: usize = 0;
-    while i < round.len() {
-        seen += one_if_absent(&round[i + 1..], round[i]);
-        i += 1;
+    for (i, id) in round.iter().enumerate() {
+        if !occurs(&round[i + 1..], *id) {
+            seen += 1;
+        }
     }
     seen
 }

@@ -1,20 +1,21 @@
 // Windows beside a round: whether every id of the round has one window that holds the date of the last report and that
 // of this one, so that no prism was taken away and set again between them. Windows are lent as words, three to a
 // window, as `validity::Window` lies in memory.
-ghost use Rattle.std.specs.Prelude.{◌≡◌, length, ◌+◌, ◌*◌, ◌<◌};
+ghost use Rattle.std.specs.Prelude.{◌≡◌, Bool, length, ◌+◌, ◌*◌, ◌<◌};
 ghost use Rattle.validity.specs.Rule.{some_window, invalid_dates, inverted, holds_date};
 ghost use Rattle.preflight.specs.Dates.{date_of, window_at, windows_in, holds_both, first_outside, preflight_dates};
+ghost use Rattle.preflight.specs.Cases.{place_of, dates_of};
+ghost use Rattle.validity.specs.declared.Window.{Window};
 
-use super::Place;
-use jhash::refusals::{NO_SUCH_DATE, NOT_BEFORE_END};
-use validity::calendar::{earlier, is_date, is_end};
+use jhash::refusals::Refusal;
+use validity::calendar::{is_date, is_end};
 use validity::{Date, Window};
 
-// Yes; or a refusal, 22 or 23; or the place of the first id of the round that has no such window.
-#[derive(Clone, Copy)]
-pub enum DatesAnswer {
-    Yes,
-    Refused(u32),
+// Why the dates of a report are no: a refusal, 22 or 23; or the place of the first id of the round that has no such
+// window.
+#[derive(Clone, Copy, Debug, PartialEq, Eq)]
+pub enum DatesObjection {
+    Refused(Refusal),
     Outside { place: usize },
 }
 
@@ -45,127 +46,73 @@ fn window_at(windows: &[u32], i: usize) -> Window
 fn has_invalid_date(w: Window) -> bool
     ensures { result ≡ invalid_dates w }
 {
-    let first = w.first;
-    let end = w.end;
-    if !is_date(first) {
-        return true;
-    }
-    !is_end(end)
+    !is_date(w.first) || !is_end(w.end)
 }
 
 // Does the window not start before its end?
 fn is_inverted(w: Window) -> bool
     ensures { result ≡ inverted w }
 {
-    let first = w.first;
-    let end = w.end;
-    !earlier(first, end)
+    w.end <= w.first
 }
 
 // Is it a window of the id that holds the date, the first date included, the end date not?
 fn holds_date(w: Window, id: u32, date: Date) -> bool
     ensures { result ≡ holds_date id date w }
 {
-    let first = w.first;
-    let end = w.end;
     if w.id != id {
         return false;
     }
-    if earlier(date, first) {
-        return false;
-    }
-    earlier(date, end)
+    w.first <= date && date < w.end
 }
 
 // Is it a window of the id that holds both dates?
 fn holds_both(w: Window, id: u32, last: Date, date: Date) -> bool
     ensures { result ≡ holds_both last date id w }
 {
-    if !holds_date(w, id, last) {
-        return false;
-    }
-    holds_date(w, id, date)
+    holds_date(w, id, last) && holds_date(w, id, date)
 }
 
-// Has some window such a date?
-fn some_invalid(windows: &[u32]) -> bool
-    ensures { result ≡ some_window invalid_dates (windows_in windows.now) }
+// Does some window pass a test?
+fn some_window<F: Fn(Window) -> bool>(windows: &[u32], test: F) -> bool
+    requires { F.IsAlwaysCallable test }
+    ensures { (t : Window → Bool) → ((w : Window) (r : Bool) → F.post test w r → r ≡ t w)
+        → result ≡ some_window t (windows_in windows.now) }
 {
-    let n = windows.len() / 3;
-    let mut i: usize = 0;
-    while i < n {
-        if has_invalid_date(window_at(windows, i)) {
+    for i in 0..windows.len() / 3 {
+        if test(window_at(windows, i)) {
             return true;
         }
-        i += 1;
     }
     false
 }
 
-// Does some window not start before its end?
-fn some_inverted(windows: &[u32]) -> bool
-    ensures { result ≡ some_window inverted (windows_in windows.now) }
+// The place of the first id of the round without a window that holds both dates.
+fn first_outside(windows: &[u32], round: &[u32], last: Date, date: Date) -> Option<usize>
+    ensures { place_of result ≡ first_outside (windows_in windows.now) last date round.now }
 {
-    let n = windows.len() / 3;
-    let mut i: usize = 0;
-    while i < n {
-        if is_inverted(window_at(windows, i)) {
-            return true;
-        }
-        i += 1;
-    }
-    false
-}
-
-// Does some window of the id hold both dates?
-fn some_holds(windows: &[u32], id: u32, last: Date, date: Date) -> bool
-    ensures { result ≡ some_window (holds_both last date id) (windows_in windows.now) }
-{
-    let n = windows.len() / 3;
-    let mut i: usize = 0;
-    while i < n {
-        if holds_both(window_at(windows, i), id, last, date) {
-            return true;
-        }
-        i += 1;
-    }
-    false
-}
-
-// The place of the first id of the round without such a window.
-fn first_outside(windows: &[u32], round: &[u32], last: Date, date: Date) -> Place
-    ensures { result ≡ first_outside (windows_in windows.now) last date round.now }
-{
-    let mut i: usize = 0;
-    while i < round.len() {
-        if !some_holds(windows, round[i], last, date) {
-            return Place::At(i);
-        }
-        i += 1;
-    }
-    Place::Nothing
+    round.iter().position(|id| !some_window(windows, |w| holds_both(w, *id, last, date)))
 }
 
 // Has every id of the round one window that holds both dates? Refused with 22 for a date that does not exist or is out
 // of bounds, that of the last report, that of this one or a window's; after these with 23 for a window that does not
 // start before its end.
-pub fn preflight_dates(windows: &[u32], round: &[u32], last: Date, date: Date) -> DatesAnswer
-    ensures { result ≡ preflight_dates (windows_in windows.now) round.now last date }
+pub fn preflight_dates(
+    windows: &[u32],
+    round: &[u32],
+    last: Date,
+    date: Date,
+) -> Result<(), DatesObjection>
+    ensures { dates_of result ≡ preflight_dates (windows_in windows.now) round.now last date }
 {
-    if !is_date(last) {
-        return DatesAnswer::Refused(NO_SUCH_DATE);
+    if !is_date(last) || !is_date(date) || some_window(windows, |w| has_invalid_date(w)) {
+        return Err(DatesObjection::Refused(Refusal::NoSuchDate));
     }
-    if !is_date(date) {
-        return DatesAnswer::Refused(NO_SUCH_DATE);
-    }
-    if some_invalid(windows) {
-        return DatesAnswer::Refused(NO_SUCH_DATE);
-    }
-    if some_inverted(windows) {
-        return DatesAnswer::Refused(NOT_BEFORE_END);
+    if some_window(windows, |w| is_inverted(w)) {
+        return Err(DatesObjection::Refused(Refusal::NotBeforeEnd));
     }
     match first_outside(windows, round, last, date) {
-        Place::At(place) => DatesAnswer::Outside { place },
-        Place::Nothing => DatesAnswer::Yes,
+        Some(place) => Err(DatesObjection::Outside { place }),
+        None => Ok(()),
     }
 }

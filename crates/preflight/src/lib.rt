@@ -4,12 +4,14 @@
 
 ghost use Rattle.std.specs.Prelude.{◌≡◌};
 ghost use Rattle.reader.specs.Naming.{name_given};
-ghost use Rattle.preflight.specs.Verdicts.{is_whole, is_yes, of_round, of_changes, verdict_first, verdict};
+ghost use Rattle.preflight.specs.Verdicts.{is_whole, of_round, of_changes, verdict_first, verdict};
 ghost use Rattle.preflight.specs.Preflight.{preflight_first, preflight};
+ghost use Rattle.preflight.specs.Cases.{verdict_of, answered};
 
 use counts::{compared, unsighted};
 use image::head::FLAG_AT;
 use image::word_or_zero;
+use jhash::refusals::Refusal;
 use names::{first_nameless, first_renamed, first_shared, first_taken, some_kept};
 use on_sheet::of_sheet;
 
@@ -18,49 +20,41 @@ pub mod dates; // dates.rt: preflight_dates: windows that hold the dates of two 
 mod names; // names.rt: the questions about names
 mod on_sheet; // on_sheet.rt: the round beside the sheet: of_sheet
 
-// A place in the round, counted from 0; or none.
-#[derive(Clone, Copy)]
-pub enum Place {
-    At(usize),
-    Nothing,
+// Two places in the round, of different ids with one name.
+#[derive(Clone, Copy, Debug, PartialEq, Eq)]
+pub struct Shared {
+    pub place: usize,
+    pub other: usize,
 }
 
-// Two places in the round, of different ids with one name; or none.
-#[derive(Clone, Copy)]
-pub enum Shared {
-    Places { place: usize, other: usize },
-    Nothing,
+// An id that lost its old name, and the place in the round of the id that has it now.
+#[derive(Clone, Copy, Debug, PartialEq, Eq)]
+pub struct Taken {
+    pub id: u32,
+    pub place: usize,
 }
 
-// An id that lost its old name, and the place in the round of the id that has it now; or none.
-#[derive(Clone, Copy)]
-pub enum Taken {
-    By { id: u32, place: usize },
-    Nothing,
-}
-
-// Yes, or the first question that fails, with the ids and the places in the round that show it.
-#[derive(Clone, Copy)]
-pub enum Verdict {
-    Yes,
+// Why a report may not leave: the first question that fails, with the ids and the places in the round, counted from 0,
+// that show it.
+#[derive(Clone, Copy, Debug, PartialEq, Eq)]
+pub enum Objection {
     NewRefused,
-    SheetRefused(u32),
+    SheetRefused(Refusal),
     OffSheet { place: usize },
     EmptyRound,
     Nameless { place: usize },
-    OneName { place: usize, other: usize },
+    OneName(Shared),
     OldRefused,
     NothingAlike,
     Renamed { place: usize },
-    NameTaken { id: u32, place: usize },
+    NameTaken(Taken),
 }
 
-// The verdict, and how much a yes is about: how many places of the round have an id that the old image names, so that
-// it was compared, and how many have another; how many references and wall prisms of the sheet are not in the round.
-// All three are 0 in a no, the first two also in a first report.
-#[derive(Clone, Copy)]
-pub struct Answer {
-    pub verdict: Verdict,
+// How much a yes is about: how many places of the round have an id that the old image names, so that it was compared,
+// and how many have another; how many references and wall prisms of the sheet are not in the round. The first two are 0
+// in a first report.
+#[derive(Clone, Copy, Debug, PartialEq, Eq)]
+pub struct Cleared {
     pub compared: usize,
     pub added: usize,
     pub unsighted: usize,
@@ -70,133 +64,97 @@ pub struct Answer {
 fn is_whole(image: &[u8]) -> bool
     ensures { result ≡ is_whole image.now }
 {
-    if !canonical::is_canonical(image) {
-        return false;
-    }
-    word_or_zero(image, FLAG_AT) == 0
+    canonical::is_canonical(image) && word_or_zero(image, FLAG_AT) == 0
 }
 
 // The questions of the round by the new image alone.
-fn of_round(new: &[u8], round: &[u32]) -> Verdict
-    ensures { result ≡ of_round (name_given new.now) round.now }
+fn of_round(new: &[u8], round: &[u32]) -> Result<(), Objection>
+    ensures { verdict_of result ≡ of_round (name_given new.now) round.now }
 {
-    if round.len() == 0 {
-        return Verdict::EmptyRound;
+    if round.is_empty() {
+        return Err(Objection::EmptyRound);
     }
-    match first_nameless(new, round) {
-        Place::At(place) => Verdict::Nameless { place },
-        Place::Nothing => match first_shared(new, round) {
-            Shared::Places { place, other } => Verdict::OneName { place, other },
-            Shared::Nothing => Verdict::Yes,
-        },
+    if let Some(place) = first_nameless(new, round) {
+        return Err(Objection::Nameless { place });
     }
+    if let Some(shared) = first_shared(new, round) {
+        return Err(Objection::OneName(shared));
+    }
+    Ok(())
 }
 
 // The questions of what changed.
-fn of_changes(old: &[u8], new: &[u8], round: &[u32], accepted: &[u32]) -> Verdict
-    ensures { result ≡ of_changes old.now new.now round.now accepted.now }
+fn of_changes(old: &[u8], new: &[u8], round: &[u32], accepted: &[u32]) -> Result<(), Objection>
+    ensures { verdict_of result ≡ of_changes old.now new.now round.now accepted.now }
 {
     if !is_whole(old) {
-        return Verdict::OldRefused;
+        return Err(Objection::OldRefused);
     }
     if !some_kept(old, new) {
-        return Verdict::NothingAlike;
+        return Err(Objection::NothingAlike);
     }
-    match first_renamed(old, new, round, accepted) {
-        Place::At(place) => Verdict::Renamed { place },
-        Place::Nothing => match first_taken(old, new, round) {
-            Taken::By { id, place } => Verdict::NameTaken { id, place },
-            Taken::Nothing => Verdict::Yes,
-        },
+    if let Some(place) = first_renamed(old, new, round, accepted) {
+        return Err(Objection::Renamed { place });
     }
-}
-
-// Is the verdict yes?
-pub fn is_yes(v: Verdict) -> bool
-    ensures { result ≡ is_yes v }
-{
-    match v {
-        Verdict::Yes => true,
-        Verdict::NewRefused => false,
-        Verdict::SheetRefused(k) => false,
-        Verdict::OffSheet { place } => false,
-        Verdict::EmptyRound => false,
-        Verdict::Nameless { place } => false,
-        Verdict::OneName { place, other } => false,
-        Verdict::OldRefused => false,
-        Verdict::NothingAlike => false,
-        Verdict::Renamed { place } => false,
-        Verdict::NameTaken { id, place } => false,
+    if let Some(taken) = first_taken(old, new, round) {
+        return Err(Objection::NameTaken(taken));
     }
+    Ok(())
 }
 
 // The questions of a first report.
-fn verdict_first(new: &[u8], sheet: &[u8], round: &[u32]) -> Verdict
-    ensures { result ≡ verdict_first new.now sheet.now round.now }
+fn ask_first(new: &[u8], sheet: &[u8], round: &[u32]) -> Result<(), Objection>
+    ensures { verdict_of result ≡ verdict_first new.now sheet.now round.now }
 {
     if !is_whole(new) {
-        return Verdict::NewRefused;
+        return Err(Objection::NewRefused);
     }
-    let listed = of_sheet(sheet, round);
-    if !is_yes(listed) {
-        return listed;
-    }
+    of_sheet(sheet, round)?;
     of_round(new, round)
 }
 
 // All questions.
-fn verdict_all(old: &[u8], new: &[u8], sheet: &[u8], round: &[u32], accepted: &[u32]) -> Verdict
-    ensures { result ≡ verdict old.now new.now sheet.now round.now
-        accepted.now }
+fn ask_all(
+    old: &[u8],
+    new: &[u8],
+    sheet: &[u8],
+    round: &[u32],
+    accepted: &[u32],
+) -> Result<(), Objection>
+    ensures { verdict_of result ≡ verdict old.now new.now sheet.now round.now accepted.now }
 {
-    let alone = verdict_first(new, sheet, round);
-    if !is_yes(alone) {
-        return alone;
-    }
+    ask_first(new, sheet, round)?;
     of_changes(old, new, round, accepted)
 }
 
 // May a first report leave, whose ids `new` names? There is no last report to compare it with.
-pub fn preflight_first(new: &[u8], sheet: &[u8], round: &[u32]) -> Answer
-    ensures { result ≡ preflight_first new.now sheet.now round.now }
+pub fn preflight_first(new: &[u8], sheet: &[u8], round: &[u32]) -> Result<Cleared, Objection>
+    ensures { answered result ≡ preflight_first new.now sheet.now round.now }
 {
-    let v = verdict_first(new, sheet, round);
-    if !is_yes(v) {
-        return Answer {
-            verdict: v,
-            compared: 0,
-            added: 0,
-            unsighted: 0,
-        };
-    }
-    Answer {
-        verdict: v,
+    ask_first(new, sheet, round)?;
+    Ok(Cleared {
         compared: 0,
         added: 0,
         unsighted: unsighted(sheet, round),
-    }
+    })
 }
 
 // May the report leave, whose ids `new` names, after one whose ids `old` named? The ids in `accepted` are renamed on
 // purpose.
-pub fn preflight(old: &[u8], new: &[u8], sheet: &[u8], round: &[u32], accepted: &[u32]) -> Answer
-    ensures { result ≡ preflight old.now new.now sheet.now round.now
-        accepted.now }
+pub fn preflight(
+    old: &[u8],
+    new: &[u8],
+    sheet: &[u8],
+    round: &[u32],
+    accepted: &[u32],
+) -> Result<Cleared, Objection>
+    ensures { answered result ≡ preflight old.now new.now sheet.now round.now accepted.now }
 {
-    let v = verdict_all(old, new, sheet, round, accepted);
-    if !is_yes(v) {
-        return Answer {
-            verdict: v,
-            compared: 0,
-            added: 0,
-            unsighted: 0,
-        };
-    }
-    let named = compared(old, round);
-    Answer {
-        verdict: v,
-        compared: named,
-        added: round.len() - named,
+    ask_all(old, new, sheet, round, accepted)?;
+    let compared = compared(old, round);
+    Ok(Cleared {
+        compared,
+        added: round.len() - compared,
         unsighted: unsighted(sheet, round),
-    }
+    })
 }

@@ -3,29 +3,21 @@ ghost use Rattle.std.specs.Prelude.{◌≡◌};
 ghost use Rattle.sheet.specs.SheetReading.{ids_in, read_lists};
 ghost use Rattle.preflight.specs.Ids.{is_id};
 ghost use Rattle.preflight.specs.OnSheet.{off_sheet, first_off, of_sheet};
-ghost use Rattle.preflight.specs.Steps.Contracts.{OneOf, PartTallied};
+ghost use Rattle.preflight.specs.Steps.Contracts.{PartTallied};
+ghost use Rattle.preflight.specs.Cases.{place_of, verdict_of};
 
-use super::{Place, Verdict};
-use jhash::refusals::{LEFT_OVER_BYTES, TOO_FEW_BYTES};
-use sheet::{ReadAnswer, Which, id_at, section};
-
-// 1 for equal ids, else 0.
-fn one_if_equal(x: u32, id: u32) -> usize
-    ensures { OneOf (is_id id x) result }
-{
-    if x == id { 1 } else { 0 }
-}
+use super::Objection;
+use sheet::{Which, id_at, section};
 
 // How often an id stands in a part of a sheet.
 fn count(part: &[u8], id: u32) -> usize
     ensures { PartTallied (is_id id) part.now result }
 {
-    let n = part.len() / 4;
     let mut seen: usize = 0;
-    let mut i: usize = 0;
-    while i < n {
-        seen += one_if_equal(id_at(part, i), id);
-        i += 1;
+    for i in 0..part.len() / 4 {
+        if id_at(part, i) == id {
+            seen += 1;
+        }
     }
     seen
 }
@@ -41,34 +33,27 @@ fn off_sheet(references: &[u8], walls: &[u8], retired: &[u8], id: u32) -> bool
 }
 
 // The place of the first id of the round that is not.
-fn first_off(references: &[u8], walls: &[u8], retired: &[u8], round: &[u32]) -> Place
-    ensures { result ≡ first_off (ids_in references.now) (ids_in walls.now) (ids_in retired.now)
-        round.now }
+fn first_off(references: &[u8], walls: &[u8], retired: &[u8], round: &[u32]) -> Option<usize>
+    ensures { place_of result ≡ first_off (ids_in references.now) (ids_in walls.now) (ids_in retired.now) round.now }
 {
-    let mut i: usize = 0;
-    while i < round.len() {
-        if off_sheet(references, walls, retired, round[i]) {
-            return Place::At(i);
-        }
-        i += 1;
-    }
-    Place::Nothing
+    round
+        .iter()
+        .position(|id| off_sheet(references, walls, retired, *id))
 }
 
 // The questions of the sheet.
-pub(crate) fn of_sheet(file: &[u8], round: &[u32]) -> Verdict
-    ensures { result ≡ of_sheet (read_lists file.now) round.now }
+pub(crate) fn of_sheet(file: &[u8], round: &[u32]) -> Result<(), Objection>
+    ensures { verdict_of result ≡ of_sheet (read_lists file.now) round.now }
 {
     match sheet::read(file) {
-        ReadAnswer::TooFew => Verdict::SheetRefused(TOO_FEW_BYTES),
-        ReadAnswer::LeftOver => Verdict::SheetRefused(LEFT_OVER_BYTES),
-        ReadAnswer::Whole(s) => {
+        Err(refusal) => Err(Objection::SheetRefused(refusal)),
+        Ok(_) => {
             let references = section(file, Which::References);
             let walls = section(file, Which::Walls);
             let retired = section(file, Which::Retired);
             match first_off(references, walls, retired, round) {
-                Place::At(place) => Verdict::OffSheet { place },
-                Place::Nothing => Verdict::Yes,
+                Some(place) => Err(Objection::OffSheet { place }),
+                None => Ok(()),
             }
         }
     }

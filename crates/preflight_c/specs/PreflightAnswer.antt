@@ -1,8 +1,8 @@
 -- The exported calls: the rule's answer as a struct of numbers.
 use Rattle.std.specs.Prelude.{ℕ}
-use Rattle.preflight.specs.declared.Answer.{Answer}
-use Rattle.preflight.specs.declared.Verdict.{Verdict}
-use Rattle.preflight.specs.declared.Verdict.TheVariants as verdict
+use Rattle.preflight.specs.Answers.Answer.{Answer}
+use Rattle.preflight.specs.Answers.Verdict.{Verdict}
+use Rattle.preflight.specs.Answers.Verdict as verdict
 use Rattle.preflight_c.specs.declared.reports.PreflightAnswer.{PreflightAnswer}
 
 -- a question with what shows it, and the counts of an answer
@@ -17,6 +17,20 @@ made a question refusal id place other =
       compared = a.compared;
       added = a.added;
       unsighted = a.unsighted;
+    }
+
+-- a question that fails, with what shows it; a no has no counts
+abbrev pub objected : ℕ → ℕ → ℕ → ℕ → ℕ → PreflightAnswer
+objected question refusal id place other =
+    record {
+      question = question;
+      refusal = refusal;
+      id = id;
+      place = place;
+      other = other;
+      compared = 0;
+      added = 0;
+      unsighted = 0;
     }
 
 -- the number of the first question that fails, 0 for yes

@@ -1,7 +1,7 @@
 -- The exported call about dates: the rule's answer as a struct of numbers.
 use Rattle.std.specs.Prelude.{ℕ}
-use Rattle.preflight.specs.declared.dates.DatesAnswer.{DatesAnswer}
-use Rattle.preflight.specs.declared.dates.DatesAnswer.TheVariants.{Yes, Refused, Outside}
+use Rattle.preflight.specs.Answers.DatesAnswer.{DatesAnswer}
+use Rattle.preflight.specs.Answers.DatesAnswer.{Yes, Refused, Outside}
 use Rattle.preflight_c.specs.declared.dates.PreflightDatesAnswer.{PreflightDatesAnswer}
 
 abbrev dated : ℕ → ℕ → ℕ → PreflightDatesAnswer

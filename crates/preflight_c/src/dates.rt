@@ -3,7 +3,7 @@ ghost use Rattle.std.specs.Prelude.{◌≡◌};
 ghost use Rattle.preflight.specs.Dates.{windows_in, preflight_dates};
 ghost use Rattle.preflight_c.specs.PreflightDatesAnswer.{dates_answer};
 
-use preflight::dates::DatesAnswer;
+use preflight::dates::DatesObjection;
 use validity::Date;
 
 // 0 for yes, 11 for no, and then the place that shows it; or the refusal's number. Fields that do not apply are 0.
@@ -26,17 +26,17 @@ pub extern "C" fn cqdb_preflight_dates_words(
     ensures { result ≡ dates_answer (preflight_dates (windows_in windows.now) round.now last date) }
 {
     match preflight::dates::preflight_dates(windows, round, last, date) {
-        DatesAnswer::Yes => PreflightDatesAnswer {
+        Ok(()) => PreflightDatesAnswer {
             question: 0,
             refusal: 0,
             place: 0,
         },
-        DatesAnswer::Refused(k) => PreflightDatesAnswer {
+        Err(DatesObjection::Refused(refusal)) => PreflightDatesAnswer {
             question: 0,
-            refusal: k,
+            refusal: u32::from(refusal),
             place: 0,
         },
-        DatesAnswer::Outside { place } => PreflightDatesAnswer {
+        Err(DatesObjection::Outside { place }) => PreflightDatesAnswer {
             question: 11,
             refusal: 0,
             place: place as u64,

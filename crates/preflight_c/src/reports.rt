@@ -1,9 +1,10 @@
 // The questions of a report for C: thin calls of the proved functions that bear the work.
-ghost use Rattle.std.specs.Prelude.{◌≡◌};
+ghost use Rattle.std.specs.Prelude.{◌≡◌, Err};
 ghost use Rattle.preflight.specs.Preflight.{preflight, preflight_first};
-ghost use Rattle.preflight_c.specs.PreflightAnswer.{made, preflight_answer};
+ghost use Rattle.preflight.specs.Cases.{answered};
+ghost use Rattle.preflight_c.specs.PreflightAnswer.{objected, preflight_answer};
 
-use preflight::{Answer, Verdict};
+use preflight::{Cleared, Objection};
 
 // The number of the first question that fails, 0 for yes, and what shows it; the counts of a yes. Fields that do not
 // apply are 0.
@@ -20,16 +21,9 @@ pub struct PreflightAnswer {
     pub unsighted: u64,
 }
 
-// A question with what shows it, and the counts of an answer.
-fn made(
-    a: Answer,
-    question: u32,
-    refusal: u32,
-    id: u32,
-    place: usize,
-    other: usize,
-) -> PreflightAnswer
-    ensures { result ≡ made a question refusal id place other }
+// A question that fails, with what shows it; a no has no counts.
+fn objected(question: u32, refusal: u32, id: u32, place: usize, other: usize) -> PreflightAnswer
+    ensures { result ≡ objected question refusal id place other }
 {
     PreflightAnswer {
         question,
@@ -37,29 +31,46 @@ fn made(
         id,
         place: place as u64,
         other: other as u64,
-        compared: a.compared as u64,
-        added: a.added as u64,
-        unsighted: a.unsighted as u64,
+        compared: 0,
+        added: 0,
+        unsighted: 0,
+    }
+}
+
+// The objection as a struct of numbers.
+fn objection(o: Objection) -> PreflightAnswer
+    ensures { result ≡ preflight_answer (answered (Err o)) }
+{
+    match o {
+        Objection::NewRefused => objected(1, 0, 0, 0, 0),
+        Objection::SheetRefused(refusal) => objected(2, u32::from(refusal), 0, 0, 0),
+        Objection::OffSheet { place } => objected(3, 0, 0, place, 0),
+        Objection::EmptyRound => objected(4, 0, 0, 0, 0),
+        Objection::Nameless { place } => objected(5, 0, 0, place, 0),
+        Objection::OneName(shared) => objected(6, 0, 0, shared.place, shared.other),
+        Objection::OldRefused => objected(7, 0, 0, 0, 0),
+        Objection::NothingAlike => objected(8, 0, 0, 0, 0),
+        Objection::Renamed { place } => objected(9, 0, 0, place, 0),
+        Objection::NameTaken(taken) => objected(10, 0, taken.id, taken.place, 0),
     }
 }
 
 // The answer as a struct of numbers.
-fn answer(a: Answer) -> PreflightAnswer
-    ensures { result ≡ preflight_answer a }
+fn answer(r: Result<Cleared, Objection>) -> PreflightAnswer
+    ensures { result ≡ preflight_answer (answered r) }
 {
-    let v = a.verdict;
-    match v {
-        Verdict::Yes => made(a, 0, 0, 0, 0, 0),
-        Verdict::NewRefused => made(a, 1, 0, 0, 0, 0),
-        Verdict::SheetRefused(k) => made(a, 2, k, 0, 0, 0),
-        Verdict::OffSheet { place } => made(a, 3, 0, 0, place, 0),
-        Verdict::EmptyRound => made(a, 4, 0, 0, 0, 0),
-        Verdict::Nameless { place } => made(a, 5, 0, 0, place, 0),
-        Verdict::OneName { place, other } => made(a, 6, 0, 0, place, other),
-        Verdict::OldRefused => made(a, 7, 0, 0, 0, 0),
-        Verdict::NothingAlike => made(a, 8, 0, 0, 0, 0),
-        Verdict::Renamed { place } => made(a, 9, 0, 0, place, 0),
-        Verdict::NameTaken { id, place } => made(a, 10, 0, id, place, 0),
+    match r {
+        Ok(cleared) => PreflightAnswer {
+            question: 0,
+            refusal: 0,
+            id: 0,
+            place: 0,
+            other: 0,
+            compared: cleared.compared as u64,
+            added: cleared.added as u64,
+            unsighted: cleared.unsighted as u64,
+        },
+        Err(o) => objection(o),
     }
 }
 

@@ -80,9 +80,9 @@ module _ (image name : List ℕ) (h o n : ℕ) where
     ]
 
     -- by the first offset that is 0; x, y, z are those in the first three buckets k, i, j
-    pub early_miss : (i j x y z r : ℕ) → i ≡ next n k → j ≡ next n i → x ≡ offset k → y ≡ offset i → z ≡ offset j → (hash k ≡ h → ⊥) → (hash i ≡ h → ⊥)
-        → FirstZero x y z r → 0 < r → search_table image name h o n ≡ nothing r
-    early_miss i j x y z r ei ej ex ey ez d₀ d₁ = by_first_zero r
+    pub early_miss : (i j x y z : ℕ) → i ≡ next n k → j ≡ next n i → x ≡ offset k → y ≡ offset i → z ≡ offset j → (hash k ≡ h → ⊥) → (hash i ≡ h → ⊥)
+        → (r : ℕ) → FirstZero x y z r → search_table image name h o n ≡ nothing r
+    early_miss i j x y z ei ej ex ey ez d₀ d₁ = by_first_zero
       where
         second : offset (next n k) ≡ y
         second = ap offset (sym ei) ∙ sym ey
@@ -90,11 +90,11 @@ module _ (image name : List ℕ) (h o n : ℕ) where
         third : offset (next n (next n k)) ≡ z
         third = ap (λ (b : ℕ). offset (next n b)) (sym ei) ∙ ap offset (sym ej) ∙ sym ez
 
-        by_first_zero : (r : ℕ) → FirstZero x y z r → 0 < r → search_table image name h o n ≡ nothing r
-        by_first_zero zero f p = absurd (omega arith)
-        by_first_zero (suc zero) f p = at_first (sym ex ∙ f.first refl)
-        by_first_zero (suc (suc zero)) f p = let g = f.second refl in at_second d₀ (omega (arith, g.0, ex)) (second ∙ g.1)
-        by_first_zero (suc (suc (suc zero))) f p =
+        by_first_zero : (r : ℕ) → FirstZero x y z r → search_table image name h o n ≡ nothing r
+        by_first_zero zero f = absurd (omega (arith, f.some))
+        by_first_zero (suc zero) f = at_first (sym ex ∙ f.first refl)
+        by_first_zero (suc (suc zero)) f = let g = f.second refl in at_second d₀ (omega (arith, g.0, ex)) (second ∙ g.1)
+        by_first_zero (suc (suc (suc zero))) f =
             let g = f.third refl in
             at_third d₀ (λ q. d₁ (ap hash ei ∙ q)) (omega (arith, g.0, ex)) (omega (arith, g.1, second)) (third ∙ g.2)
-        by_first_zero (suc (suc (suc (suc r)))) f p = absurd (omega (arith, f.few))
+        by_first_zero (suc (suc (suc (suc r)))) f = absurd (omega (arith, f.few))

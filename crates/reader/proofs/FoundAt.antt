@@ -11,7 +11,7 @@ use Rattle.image.proofs.Bools.{or_false_first, or_false_second, chose_first, cho
 use Rattle.image.proofs.Equal.{same_true}
 use Rattle.reader.specs.Lookup.{found, nothing, Hit, hit_at, Probe, pass, ends, hit, probe_entry, probe_bucket, decide, search_along, search_table}
 use Rattle.reader.specs.Lookup.{unsearched, lookup_hash, lookup}
-use Rattle.reader.specs.declared.Found.{Found}
+use Rattle.reader.specs.Lookup.{Found}
 use Rattle.reader.specs.Theorems.FoundAt.{bucket_read, FoundInTable, FoundAt, FoundAtOffset}
 use Rattle.image.proofs.Buckets.{length-probe_sequence}
 use Rattle.reader.proofs.Bounds.{probe_sequence_below}

@@ -5,8 +5,7 @@ use Rattle.image.specs.Bytes.{word}
 use Rattle.image.proofs.Bools.{or_false_first, or_false_second, chose_second}
 use Rattle.image.specs.Head.{back_size_at, back_offset_at, back_past_end}
 use Rattle.image.specs.Stored.{broken}
-use Rattle.reader.specs.Slices.{Slice, subslice}
-use Rattle.reader.specs.Naming.{Naming, place, unnamed, no_back, naming_at, naming, slice_or}
+use Rattle.reader.specs.Naming.{place, unnamed, no_back, naming_at, naming}
 use Rattle.reader.specs.IdWalk.{upper_hint}
 use Rattle.image.proofs.Unbroken.{unbroken}
 
@@ -64,15 +63,6 @@ named image id s n e =
     let es : at + 8 ≡ s = cc there.1 in
     let en : word image (at + 4) - 1 ≡ n = cc there.1 in
     record { array = array.0; below = leb-false (back_size_at image) id below.0; inside = omega (arith, w.name) }
-
--- the part of the image that a reading x gives, by its start and end
-pub named_slice : (image other : Slice) (x : Naming) (s n : ℕ) → place s n ≡ x → subslice image s (s + n - s) ≡ slice_or image other x
-named_slice image other x s n e =
-    let k : s + n - s ≡ n = omega arith in
-    ap (subslice image s) k ∙ ap (slice_or image other) e
-
-pub no_slice : (image other : Slice) (x : Naming) → unnamed ≡ x → other ≡ slice_or image other x
-no_slice image other x e = ap (slice_or image other) e
 
 -- the upper hint, for a back size w
 pub hint_none : (image : List ℕ) (n : ℕ) → no_back image ≡ true → 0 ≡ upper_hint image n

@@ -1,7 +1,8 @@
 -- The pass over the tables' rows, a step at a time, and the cases of opening. Assumes nothing.
-use Rattle.std.proofs.Common.{◌≡◌, ℕ, suc, ◌+◌, ◌-◌, ◌*◌, ◌/◌, ◌%◌, ◌^◌, ◌<◌, ◌≤◌, Bool, false, cond, not, ◌&&◌, ◌||◌, eqb, ltb, List, length, sym, refl, ap}
-use Rattle.std.proofs.Common.{◌∙◌, add-one, arith, le-ltb}
-use mathlib.Core.Bool.{or_assoc, and-false}
+use Rattle.std.proofs.Common.{◌≡◌, ℕ, zero, suc, ◌+◌, ◌-◌, ◌*◌, ◌/◌, ◌%◌, ◌^◌, ◌<◌, ◌≤◌, Bool, false, cond, not, ◌&&◌, ◌||◌, eqb, ltb, List, length}
+use Rattle.std.proofs.Common.{sym, refl, ap, ◌∙◌, add-one, arith, le-ltb}
+use mathlib.Core.Bool.{and-false}
+use Rattle.std.specs.List.{list_any, range_with_len}
 use Rattle.jhash.specs.Outcome.{value, refusal}
 use Rattle.image.specs.Bytes.{word}
 use Rattle.image.specs.Head.{table_at, bucket_number, back_offset_at, table_past_end, back_past_end}
@@ -17,11 +18,6 @@ pub record TablesInv (image : List ℕ) (all : TableSums) (t : ℕ) : Type 0 whe
   pub num_small : all.num < 2 ^ 32
   pub sum : (all.num + num_from image t (256 - t)) % 2 ^ 32 ≡ num_from image 0 256 % 2 ^ 32
   pub past_end : all.slacks < 2 ^ 63 → some_past_end image t (256 - t) ≡ some_past_end image 0 256
-
--- a table that reaches past the end was found or is still to come exactly where there is one
-pub record PastEndInv (image : List ℕ) (one : Bool) (t : ℕ) : Type 0 where
-  pub rows : t ≤ 256
-  pub same : (one || some_past_end image t (256 - t)) ≡ some_past_end image 0 256
 
 -- one table more of m that are left
 left_one : (t m : ℕ) → t < m → m - t ≡ suc (m - (t + 1))
@@ -47,17 +43,6 @@ past_end_step image t m h =
     ap (some_past_end image t) (left_one t m h) ∙ past_end_more image t (m - (t + 1))
     ∙ ap (λ (k : ℕ). (ltb 0 (table_at image t) && table_past_end image t) || some_past_end image k (m - (t + 1))) (sym (add-one t))
 
--- one step of the loop that collects by or, for a table at a with n buckets
-pub past_end_join : (image : List ℕ) (t m a n : ℕ) (b r x : Bool) → t < m → a ≡ table_at image t → n ≡ bucket_number image t
-    → r ≡ (ltb 0 a && ltb (length image) (a + 8 * n))
-    → (b || some_past_end image t (m - t)) ≡ x → ((b || r) || some_past_end image (t + 1) (m - (t + 1))) ≡ x
-past_end_join image t m a n b r x h ea en er e =
-    (ap (λ (c : Bool). (b || c) || some_past_end image (t + 1) (m - (t + 1)))
-    (er ∙ (λ i. ltb 0 (ea i) && ltb (length image) (ea i + 8 * en i))))
-    ∙ or_assoc b (ltb 0 (table_at image t) && table_past_end image t) (some_past_end image (t + 1) (m - (t + 1)))
-    ∙ ap (λ (c : Bool). b || c) (sym (past_end_step image t m h))
-    ∙ e
-
 -- a table that ends in the image changes nothing
 pub past_end_pass : (image : List ℕ) (t m a n : ℕ) → t < m → a ≡ table_at image t → n ≡ bucket_number image t → a + 8 * n ≤ length image
     → some_past_end image (t + 1) (m - (t + 1)) ≡ some_past_end image t (m - t)
@@ -76,6 +61,15 @@ num_from_none image t = refl
 pub past_end_none : (image : List ℕ) (t : ℕ) → some_past_end image t 0 ≡ false
 unfolding some_past_end
 past_end_none image t = refl
+
+-- a chain's test of the tables from t on
+pub some_of_range : (image : List ℕ) (m t : ℕ)
+    → list_any (λ (k : ℕ). ltb 0 (table_at image k) && table_past_end image k) (range_with_len t m) ≡ some_past_end image t m
+unfolding some_past_end
+some_of_range image zero t = refl
+some_of_range image (suc m) t =
+    ap (λ (b : Bool). (ltb 0 (table_at image t) && table_past_end image t) || b)
+    (some_of_range image m (t + 1) ∙ ap (λ (k : ℕ). some_past_end image k m) (add-one t))
 
 -- a sum modulo 2^32 takes one more, and at its end is the whole
 pub sum_step : (k half r rest now all : ℕ) → (k + now) % 2 ^ 32 ≡ all % 2 ^ 32 → now ≡ half + rest → r ≡ (k + half) % 2 ^ 32

@@ -1,6 +1,6 @@
 -- The search along the buckets, a step at a time. Assumes nothing.
 use Rattle.std.proofs.Common.{◌≡◌, ℕ, suc, ◌+◌, ◌-◌, ◌*◌, ◌/◌, ◌%◌, ◌<◌, ◌≤◌, Bool, true, false, cond, ◌||◌, eqb, ltb, leb, List, length, take, drop, sym}
-use Rattle.std.proofs.Common.{refl, ap, ◌∙◌, ap₂, arith, ltb-false, le-ltb, lt-ltb, eq-eqb, ne_eqb, leb-false}
+use Rattle.std.proofs.Common.{refl, ap, ◌∙◌, ap₂, arith, ltb-false, leb-false}
 use native.Mathlib.Decide.{ℕ_discrete}
 use Rattle.jhash.specs.NameHash.{hash_of}
 use Rattle.image.specs.Bytes.{word, same}
@@ -72,35 +72,6 @@ pub record RestInv (image name : List ℕ) (h o n first m k left : ℕ) : Type 0
   pub bucket : k < n
   pub most : left ≤ n
   pub same : search_rest image name h o n k left ≡ search_rest image name h o n first m
-
--- ---- the table of a hash
-
--- the two words of its row in the head
-pub record Row (image : List ℕ) (h at n : ℕ) : Type 0 where
-  pub offset : at ≡ table_at image (table_of h)
-  pub number : n ≡ bucket_number image (table_of h)
-
-module _ {image : List ℕ} {h at n : ℕ} (row : Row image h at n) where
-  by_tests : (z y x : Bool) → eqb at 0 ≡ z → eqb n 0 ≡ y → ltb (length image) (at + 8 * n) ≡ x → unsearched image (table_of h) ≡ (z || y || x)
-  by_tests z y x ez ey ex =
-      sym (λ i. eqb (row.offset i) 0 || eqb (row.number i) 0 || ltb (length image) (row.offset i + 8 * row.number i)) ∙ (λ i. ez i || ey i || ex i)
-
-  pub unread_offset : at ≡ 0 → unsearched image (table_of h) ≡ true
-  unread_offset e = by_tests true _ _ (eq-eqb at 0 e) refl refl
-
-  pub unread_number : (at ≡ 0 → ⊥) → n ≡ 0 → unsearched image (table_of h) ≡ true
-  unread_number o e = by_tests false true _ (ne_eqb at 0 o) (eq-eqb n 0 e) refl
-
-  pub unread_past_end : (at ≡ 0 → ⊥) → length image < at + 8 * n → unsearched image (table_of h) ≡ true
-  unread_past_end o out = unread_by_size (eqb n 0) refl
-    where
-      unread_by_size : (y : Bool) → eqb n 0 ≡ y → unsearched image (table_of h) ≡ true
-      unread_by_size true ey = by_tests false true _ (ne_eqb at 0 o) ey refl
-      unread_by_size false ey = by_tests false false true (ne_eqb at 0 o) ey (lt-ltb (length image) (at + 8 * n) out)
-
-  pub read_table : (at ≡ 0 → ⊥) → 0 < n → at + 8 * n ≤ length image → unsearched image (table_of h) ≡ false
-  read_table o some inside =
-      by_tests false false false (ne_eqb at 0 o) (ne_eqb n 0 (λ z. omega arith)) (le-ltb (length image) (at + 8 * n) inside)
 
 -- ---- the lookup
 

@@ -6,10 +6,14 @@ use Rattle.image.specs.Tables.{table_of, start, probe_sequence}
 use Rattle.image.specs.Image.{head_size}
 use Rattle.image.specs.Head.{table_at, bucket_number, table_past_end}
 use Rattle.image.specs.Stored.{name_at, broken}
-use Rattle.reader.specs.declared.Found.{Found}
 
 -- the answer: found with its id, or nothing; both carry the number of buckets read, the deciding one included. 02 (ii):
 -- a found answer carries the offset in the deciding bucket too, where this id and name stand
+pub record Found : Type 0 where
+  pub id : ℕ
+  pub buckets : ℕ
+  pub offset : ℕ
+
 pub data Lookup : Type 0 where
   found : Found → Lookup
   nothing : ℕ → Lookup

@@ -4,7 +4,7 @@ ghost use Rattle.reader.specs.IdWalk.{step, upper_hint};
 ghost use Rattle.reader.specs.Cases.{stepped_of};
 
 use super::naming::{no_back, to_str};
-use super::{Iter, Named, Stepped};
+use super::{Item, Iter};
 use image::head::BACK_SIZE_AT;
 use jhash::word::word;
 
@@ -17,19 +17,16 @@ pub fn iter() -> Iter
 
 // The next step of a walk. It ends at the first id without a name; calling `next` again with the same walk gives the
 // end again.
-pub fn next(image: &[u8], walk: Iter) -> Stepped
+pub fn next(image: &[u8], walk: Iter) -> Option<Item>
     ensures { stepped_of result ≡ step image.now walk.next }
 {
     let id = walk.next;
-    match to_str(image, id) {
-        Named::Place { start, len } => Stepped::Item {
-            id,
-            start,
-            len,
-            iter: Iter { next: id + 1 },
-        },
-        Named::Nothing => Stepped::Done,
-    }
+    let place = to_str(image, id)?;
+    Some(Item {
+        id,
+        place,
+        iter: Iter { next: id + 1 },
+    })
 }
 
 // How many steps a walk has left at most.
@@ -39,10 +36,5 @@ pub fn size_hint(image: &[u8], walk: Iter) -> u32
     if no_back(image) {
         return 0;
     }
-    let size = word(image, BACK_SIZE_AT);
-    let id = walk.next;
-    if size <= id {
-        return 0;
-    }
-    size - id
+    word(image, BACK_SIZE_AT).saturating_sub(walk.next)
 }

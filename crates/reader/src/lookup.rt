@@ -1,18 +1,17 @@
 // Looking up a name (reference `to_id`): the probe of a bucket, the search along the buckets, and the call.
-ghost use Rattle.std.specs.Prelude.{◌≡◌, ℕ, ◌+◌, ◌/◌, ◌<◌, ◌≤◌, List, length};
+ghost use Rattle.std.specs.Prelude.{◌≡◌, IfSome, ℕ, ◌+◌, ◌/◌, ◌<◌, ◌≤◌, List, length};
 ghost use Rattle.image.specs.Steps.Contracts.{BucketIs, TableIn};
 ghost use Rattle.reader.specs.Lookup.{nothing, probe_entry, probe_bucket, search_table, lookup_hash, lookup};
 ghost use Rattle.reader.specs.Cases.{probe_of, lookup_of};
 ghost use Rattle.reader.specs.Steps.Resume.{search_rest, bucket_after, lookup_from};
 ghost use Rattle.reader.specs.Steps.Search.{RestPre, EarlyMissPre, BucketAfterPre, FirstZero, TableFound};
 
-use super::{Found, Hit, Probe, Table, ToId};
+use super::{Hit, Image, Probe, Table, ToId};
 use image::HEAD_SIZE;
 use image::entries::broken;
 use image::equality::same;
 use image::head::{BUCKET_NUMBERS_AT, ROW_SIZE, TABLE_OFFSETS_AT};
 use image::probe::{next, start};
-use jhash::Hashed;
 use jhash::word::word;
 
 // What a search for a name does at the entry at `at`.
@@ -49,43 +48,36 @@ pub fn probe_bucket(image: &[u8], name: &[u8], h: u32, at: usize) -> Probe
     probe_entry(image, name, entry)
 }
 
-// The smaller of two numbers. Promised is what `first_zero` needs: if it is 0 and the first is not, the second is.
-fn smaller(x: u32, y: u32) -> u32
-    ensures { 0 < x → result ≡ 0 → y ≡ 0 }
-{
-    if x < y { x } else { y }
-}
-
-// Which of three numbers is the first that is 0, counted from 1; an answer of 0 promises nothing. One branch, on the
+// Which of three numbers is the first that is 0, counted from 1; no answer promises nothing. One branch, on the
 // smallest, decides whether any is 0.
-fn first_zero(x: u32, y: u32, z: u32) -> u32
-    ensures { FirstZero x y z result }
+fn first_zero(x: u32, y: u32, z: u32) -> Option<u32>
+    ensures { IfSome result (FirstZero x y z) }
 {
-    if smaller(x, smaller(y, z)) != 0 {
-        return 0;
+    if x.min(y.min(z)) != 0 {
+        return None;
     }
     if x == 0 {
-        return 1;
+        return Some(1);
     }
-    if y == 0 { 2 } else { 3 }
+    Some(if y == 0 { 2 } else { 3 })
 }
 
 // Of the first three buckets of a search, from bucket k on, the number of the first empty one, if neither of the first
-// two has the hash h: there the search ends with nothing, whatever the name. Otherwise 0, and the search is undecided.
+// two has the hash h: there the search ends with nothing, whatever the name. Otherwise the search is undecided.
 // Half of a table's buckets are empty, so a branch on each is often mispredicted; here one branch, on the smallest of
 // three offsets, decides.
-fn early_miss(image: &[u8], h: u32, at: u32, n: usize, k: usize) -> u32
+fn early_miss(image: &[u8], h: u32, at: u32, n: usize, k: usize) -> Option<u32>
     requires { EarlyMissPre image.now h at n k }
-    ensures { 0 < result → (name : List ℕ) → search_table image.now name h at n ≡ nothing result }
+    ensures { IfSome result (λ read. (name : List ℕ) → search_table image.now name h at n ≡ nothing read) }
 {
     let first = at as usize + 8 * k;
     if word(image, first) == h {
-        return 0;
+        return None;
     }
     let k1 = next(k, n);
     let second = at as usize + 8 * k1;
     if word(image, second) == h {
-        return 0;
+        return None;
     }
     let third = at as usize + 8 * next(k1, n);
     first_zero(
@@ -95,6 +87,13 @@ fn early_miss(image: &[u8], h: u32, at: u32, n: usize, k: usize) -> u32
     )
 }
 
+// Nothing is found; the search has read this many buckets.
+fn nothing(buckets: u32) -> ToId
+    ensures { lookup_of result ≡ nothing buckets }
+{
+    ToId { hit: None, buckets }
+}
+
 // The search for a name in the table of n buckets at `at`, where m buckets are left: from bucket `first` on, and from
 // the last to bucket 0.
 fn search_rest(image: &[u8], name: &[u8], h: u32, at: u32, n: u32, first: usize, m: u32) -> ToId
@@ -102,26 +101,23 @@ fn search_rest(image: &[u8], name: &[u8], h: u32, at: u32, n: u32, first: usize,
     ensures { lookup_of result ≡ search_rest image.now name.now h at n first m }
 {
     let mut k = first;
-    let mut left = m;
-    while 0 < left {
-        left -= 1;
-        let read = n - left;
+    for i in 0..m {
+        let read = n - m + i + 1;
         match probe_bucket(image, name, h, at as usize + 8 * k) {
             Probe::Pass => {}
             Probe::Ends => {
-                return ToId::Nothing { buckets: read };
+                return nothing(read);
             }
             Probe::Hit(hit) => {
-                return ToId::Found(Found {
-                    id: hit.id,
+                return ToId {
+                    hit: Some(hit),
                     buckets: read,
-                    offset: hit.offset,
-                });
+                };
             }
         }
         k = next(k, n as usize);
     }
-    ToId::Nothing { buckets: n }
+    nothing(n)
 }
 
 // The search for a name in the table of n buckets at `at`: from bucket (hash / 256) modulo n on, from the last to
@@ -131,43 +127,41 @@ fn search(image: &[u8], name: &[u8], h: u32, at: u32, n: u32) -> ToId
     ensures { lookup_of result ≡ search_table image.now name.now h at n }
 {
     let k = start(h, n as usize);
-    let ended_after = early_miss(image, h, at, n as usize, k);
-    if ended_after != 0 {
-        return ToId::Nothing {
-            buckets: ended_after,
-        };
+    match early_miss(image, h, at, n as usize, k) {
+        Some(read) => nothing(read),
+        None => search_rest(image, name, h, at, n, k, n),
     }
-    search_rest(image, name, h, at, n, k, n)
 }
 
-// The table that a hash is searched in: its offset and bucket number. The number is 0 where no bucket is read: offset
-// 0, bucket number 0 or an end past the image.
-pub fn find_table(image: &[u8], h: u32) -> Table
-    requires { 2072 ≤ length image.now }
-    ensures { TableFound image.now h result.at result.n }
-{
-    let t = (h % 256) as usize;
-    let at = word(image, TABLE_OFFSETS_AT + ROW_SIZE * t);
-    let n = word(image, BUCKET_NUMBERS_AT + ROW_SIZE * t);
-    if at == 0 {
-        return Table { at: 0, n: 0 };
+impl<'a> Image<'a> {
+    // The table that a hash is searched in: its offset and bucket number. The number is 0 where no bucket is read:
+    // offset 0, bucket number 0 or an end past the image. An Option is no plainer: 0 is then also the number of buckets
+    // that each caller answers or compares with.
+    pub fn table(self, h: u32) -> Table
+        ensures { TableFound self.entry.bytes.now h result.at result.n }
+    {
+        let t = (h % 256) as usize;
+        let at = word(self.bytes, TABLE_OFFSETS_AT + ROW_SIZE * t);
+        let n = word(self.bytes, BUCKET_NUMBERS_AT + ROW_SIZE * t);
+        if at == 0 {
+            return Table { at: 0, n: 0 };
+        }
+        if self.bytes.len() < at as usize + 8 * (n as usize) {
+            return Table { at: 0, n: 0 };
+        }
+        Table { at, n }
     }
-    if image.len() < at as usize + 8 * (n as usize) {
-        return Table { at: 0, n: 0 };
-    }
-    Table { at, n }
-}
 
-// The lookup of a name whose hash is h.
-fn to_id_hashed(image: &[u8], name: &[u8], h: u32) -> ToId
-    requires { 2072 ≤ length image.now }
-    ensures { lookup_of result ≡ lookup_hash image.now name.now h }
-{
-    let table = find_table(image, h);
-    if table.n == 0 {
-        return ToId::Nothing { buckets: 0 };
+    // The lookup of a name whose hash is h.
+    fn to_id_hashed(self, name: &[u8], h: u32) -> ToId
+        ensures { lookup_of result ≡ lookup_hash self.entry.bytes.now name.now h }
+    {
+        let table = self.table(h);
+        if table.n == 0 {
+            return nothing(0);
+        }
+        search(self.bytes, name, h, table.at, table.n)
     }
-    search(image, name, h, table.at, table.n)
 }
 
 // The id of a name and the offset of its entry, or nothing, with the number of buckets that the search reads.
@@ -175,17 +169,17 @@ pub fn to_id(image: &[u8], name: &[u8]) -> ToId
     ensures { lookup_of result ≡ lookup image.now name.now }
 {
     // Subslices that are the whole image and the whole name: place and length are read one by one, and the compiler
-    // then passes four numbers in place of two pointers to pairs.
+    // then passes four numbers in place of two pointers to pairs. `Image::new` makes more code of the test.
     let all = image.len();
     let bytes = &image[0..all];
     let n = name.len();
     let wanted = &name[0..n];
     if all < HEAD_SIZE {
-        return ToId::Nothing { buckets: 0 };
+        return nothing(0);
     }
     match jhash::name_hash(wanted) {
-        Hashed::Hash(h) => to_id_hashed(bytes, wanted, h),
-        Hashed::Refused => ToId::Nothing { buckets: 0 },
+        Ok(h) => Image { bytes }.to_id_hashed(wanted, h),
+        Err(_) => nothing(0),
     }
 }
 
@@ -198,21 +192,21 @@ pub fn bucket_after(h: u32, c: u32, n: u32) -> u32
 }
 
 // The rest of a lookup, for a caller that has hashed the name and read the first c buckets of its search: h is the
-// hash. The number of buckets in the answer counts those too.
+// hash. The number of buckets in the answer counts those too. As in `to_id`, the test is not `Image::new`'s.
 pub fn search_from(image: &[u8], name: &[u8], h: u32, c: u32) -> ToId
     requires { h / 256 + c < 4294967296 }
     ensures { lookup_of result ≡ lookup_from image.now name.now h c }
 {
     if image.len() < HEAD_SIZE {
-        return ToId::Nothing { buckets: 0 };
+        return nothing(0);
     }
     if 4294967295 <= name.len() {
-        return ToId::Nothing { buckets: 0 };
+        return nothing(0);
     }
-    let table = find_table(image, h);
+    let table = Image { bytes: image }.table(h);
     let n = table.n;
     if n <= c {
-        return ToId::Nothing { buckets: n };
+        return nothing(n);
     }
     let k = bucket_after(h, c, n) as usize;
     search_rest(image, name, h, table.at, n, k, n - c)

@@ -1,4 +1,3 @@
 -- Laws for the exports.
 pub mod ShortNames
-pub mod Answers
 pub mod Places

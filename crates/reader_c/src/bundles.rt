@@ -5,8 +5,6 @@ ghost use Rattle.bundle.specs.Opening.{opening_at};
 ghost use Rattle.bundle.specs.Append.{appending, after_append};
 ghost use Rattle.reader_c.specs.Bundle.{open_at_answer, append_answer, count_answer};
 
-use bundle::{Appended, Counted, OpenedAt};
-
 // The refusal's number, 0 when accepted; the number of entries, and the place of the image's first byte in the
 // file and how many bytes it has. Zeros when refused.
 #[repr(C)]
@@ -39,16 +37,15 @@ pub struct BundleCountAnswer {
 pub extern "C" fn cqdb_bundle_open(file: &[u8], position: u64) -> BundleOpenAnswer
     ensures { result ≡ open_at_answer (opening_at file.now position) }
 {
-    let opened = bundle::open(file, position as usize);
-    match opened {
-        OpenedAt::Image { num, start, size } => BundleOpenAnswer {
+    match bundle::open(file, position as usize) {
+        Ok(opened) => BundleOpenAnswer {
             refusal: 0,
-            num,
-            start: start as u64,
-            size: size as u64,
+            num: opened.num,
+            start: opened.start as u64,
+            size: opened.size as u64,
         },
-        OpenedAt::Refused(k) => BundleOpenAnswer {
-            refusal: k,
+        Err(refusal) => BundleOpenAnswer {
+            refusal: u32::from(refusal),
             num: 0,
             start: 0,
             size: 0,
@@ -67,14 +64,13 @@ pub extern "C" fn cqdb_bundle_append(
     ensures answer { result ≡ append_answer (appending buf.old file_len image.now) }
     ensures leaves { buf.new ≡ after_append buf.old file_len image.now }
 {
-    let appended = bundle::append(&mut *buf, file_len as usize, image);
-    match appended {
-        Appended::Length(n) => BundleAppendAnswer {
+    match bundle::append(&mut *buf, file_len as usize, image) {
+        Ok(n) => BundleAppendAnswer {
             refusal: 0,
             length: n as u64,
         },
-        Appended::Refused(k) => BundleAppendAnswer {
-            refusal: k,
+        Err(refusal) => BundleAppendAnswer {
+            refusal: u32::from(refusal),
             length: 0,
         },
     }
@@ -85,14 +81,13 @@ pub extern "C" fn cqdb_bundle_append(
 pub extern "C" fn cqdb_bundle_count(file: &[u8]) -> BundleCountAnswer
     ensures { result ≡ count_answer (counting file.now) }
 {
-    let counted = bundle::count(file);
-    match counted {
-        Counted::Images(n) => BundleCountAnswer {
+    match bundle::count(file) {
+        Ok(n) => BundleCountAnswer {
             refusal: 0,
             images: n as u64,
         },
-        Counted::Refused(k) => BundleCountAnswer {
-            refusal: k,
+        Err(refusal) => BundleCountAnswer {
+            refusal: u32::from(refusal),
             images: 0,
         },
     }

@@ -6,8 +6,7 @@ ghost use Rattle.changes.specs.Changes.{next_change};
 ghost use Rattle.changes.specs.Moves.{moved};
 ghost use Rattle.reader_c.specs.ChangeAnswers.{name_answer, change_answer, moved_answer};
 
-use changes::{Change, MovedTo};
-use reader::Named;
+use reader::Place;
 
 // 1 and the place of the name in its image, its length and its first byte's offset; or three zeros.
 #[repr(C)]
@@ -37,17 +36,17 @@ pub struct MovedAnswer {
 }
 
 // A place as C has it, where its length is below 2^32.
-fn name_answer(named: Named) -> NameAnswer
+fn name_answer(named: Option<Place>) -> NameAnswer
     requires { length_in (naming_of named) < 4294967296 }
     ensures { result ≡ name_answer (naming_of named) }
 {
     match named {
-        Named::Place { start, len } => NameAnswer {
+        Some(place) => NameAnswer {
             found: 1,
-            len: len as u32,
-            start: start as u64,
+            len: place.len as u32,
+            start: place.start as u64,
         },
-        Named::Nothing => NameAnswer {
+        None => NameAnswer {
             found: 0,
             len: 0,
             start: 0,
@@ -61,25 +60,18 @@ pub extern "C" fn cqdb_next_change(old: &[u8], new: &[u8], from: u64) -> ChangeA
     ensures { result ≡ change_answer (next_change old.now new.now from) }
 {
     match changes::next_change(old, new, from) {
-        Change::At { id, before, after } => {
-            let was = name_answer(before);
-            let is = name_answer(after);
-            ChangeAnswer {
-                found: 1,
-                id,
-                before: was,
-                after: is,
-            }
-        }
-        Change::Nothing => {
-            let none = name_answer(Named::Nothing);
-            ChangeAnswer {
-                found: 0,
-                id: 0,
-                before: none,
-                after: none,
-            }
-        }
+        Some(change) => ChangeAnswer {
+            found: 1,
+            id: change.id,
+            before: name_answer(change.before),
+            after: name_answer(change.after),
+        },
+        None => ChangeAnswer {
+            found: 0,
+            id: 0,
+            before: name_answer(None),
+            after: name_answer(None),
+        },
     }
 }
 
@@ -89,10 +81,10 @@ pub extern "C" fn cqdb_moved(old: &[u8], new: &[u8], id: u32) -> MovedAnswer
     ensures { result ≡ moved_answer (moved old.now new.now id) }
 {
     match changes::moved(old, new, id) {
-        MovedTo::Other(other) => MovedAnswer {
+        Some(other) => MovedAnswer {
             found: 1,
             id: other,
         },
-        MovedTo::Nothing => MovedAnswer { found: 0, id: 0 },
+        None => MovedAnswer { found: 0, id: 0 },
     }
 }

@@ -2,10 +2,9 @@
 ghost use Rattle.std.specs.Prelude.{◌≡◌};
 ghost use Rattle.reader_c.specs.LayoutAnswers.{no_entry, entry_answer, table_answer};
 
-use image::HEAD_SIZE;
 use image::entries::broken;
 use jhash::word::word;
-use reader::lookup::find_table;
+use reader::Image;
 
 // 1, the entry's id and the place of its name, its length and its first byte's offset; or zeros.
 #[repr(C)]
@@ -62,13 +61,13 @@ pub extern "C" fn cqdb_entry(image: &[u8], offset: u32) -> EntryAnswer
 pub extern "C" fn cqdb_table(image: &[u8], hash: u32) -> TableAnswer
     ensures { result ≡ table_answer image.now hash }
 {
-    if image.len() < HEAD_SIZE {
+    let Some(image) = Image::new(image) else {
         return TableAnswer {
             buckets: 0,
             start: 0,
         };
-    }
-    let table = find_table(image, hash);
+    };
+    let table = image.table(hash);
     if table.n == 0 {
         return TableAnswer {
             buckets: 0,

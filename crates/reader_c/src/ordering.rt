@@ -4,7 +4,7 @@ ghost use Rattle.order.specs.Rule.{ordered};
 ghost use Rattle.order.specs.Cases.{verdict_of};
 ghost use Rattle.reader_c.specs.OrderAnswer.{order_answer};
 
-use order::{Order, Pair};
+use order::Pair;
 
 // 1 and 0 where every pair is kept; otherwise 0 and the place of the first that is not.
 #[repr(C)]
@@ -14,13 +14,13 @@ pub struct OrderAnswer {
     pub pair: u64,
 }
 
-// The verdict as a struct.
-pub fn answer(o: Order) -> OrderAnswer
-    ensures { result ≡ order_answer (verdict_of o) }
+// The place of the first pair that is not kept, if there is one, as a struct.
+pub fn answer(failing: Option<usize>) -> OrderAnswer
+    ensures { result ≡ order_answer (verdict_of failing) }
 {
-    match o {
-        Order::Yes => OrderAnswer { ok: 1, pair: 0 },
-        Order::Fails { pair } => OrderAnswer {
+    match failing {
+        None => OrderAnswer { ok: 1, pair: 0 },
+        Some(pair) => OrderAnswer {
             ok: 0,
             pair: pair as u64,
         },

@@ -1,9 +1,10 @@
 // The printed catalogue for C. Each function is a thin call of the proved function that bears the work.
 ghost use Rattle.std.specs.Prelude.{◌≡◌, length};
-ghost use Rattle.page.specs.Call.{page_length, after_page, after_part, printed_of};
+ghost use Rattle.jhash.specs.Outcome.{outcome_of};
+ghost use Rattle.page.specs.Call.{page_length, after_page, after_part};
 ghost use Rattle.reader_c.specs.PageAnswer.{page_answer_of, page_answer, part_answer};
 
-use page::Printed;
+use jhash::refusals::Refusal;
 
 // The refusal's number, 0 when accepted; the length of what is printed, 0 when refused.
 #[repr(C)]
@@ -22,16 +23,16 @@ pub extern "C" fn cqdb_page_length(image: &[u8]) -> u64
 }
 
 // The outcome as a struct.
-fn answer(printed: Printed) -> PageAnswer
-    ensures { result ≡ page_answer_of (printed_of printed) }
+fn answer(printed: Result<u64, Refusal>) -> PageAnswer
+    ensures { result ≡ page_answer_of (outcome_of printed) }
 {
     match printed {
-        Printed::Length(n) => PageAnswer {
+        Ok(n) => PageAnswer {
             refusal: 0,
             length: n,
         },
-        Printed::Refused(k) => PageAnswer {
-            refusal: k,
+        Err(refusal) => PageAnswer {
+            refusal: u32::from(refusal),
             length: 0,
         },
     }

@@ -4,8 +4,7 @@ ghost use Rattle.sheet.specs.SheetReading.{read_sheet};
 ghost use Rattle.sheet.specs.SheetWriting.{section_lists, writing, after_writing};
 ghost use Rattle.reader_c.specs.SheetAnswers.{sheet_answer, length_answer, parts_answer, no_sheet};
 
-use jhash::refusals::{LEFT_OVER_BYTES, SHEET_TOO_LARGE, TOO_FEW_BYTES};
-use sheet::{ReadAnswer, Sheet, Written};
+use sheet::Sheet;
 
 // The refusal's number, 0 when the file was accepted; then, for references, wall prisms and retired prisms, the
 // number of ids and the offset of the first one's bytes, all 0 when refused.
@@ -56,9 +55,8 @@ pub extern "C" fn cqdb_sheet_read(file: &[u8]) -> SheetAnswer
     ensures { result ≡ sheet_answer (read_sheet file.now) }
 {
     match sheet::read(file) {
-        ReadAnswer::Whole(s) => parts(s),
-        ReadAnswer::TooFew => no_sheet(TOO_FEW_BYTES),
-        ReadAnswer::LeftOver => no_sheet(LEFT_OVER_BYTES),
+        Ok(s) => parts(s),
+        Err(refusal) => no_sheet(u32::from(refusal)),
     }
 }
 
@@ -77,14 +75,13 @@ pub extern "C" fn cqdb_sheet_write(
         ≡ after_writing buf.old
         (section_lists references.now walls.now retired.now) }
 {
-    let written = sheet::write(&mut *buf, references, walls, retired);
-    match written {
-        Written::Length(n) => LengthAnswer {
+    match sheet::write(&mut *buf, references, walls, retired) {
+        Ok(n) => LengthAnswer {
             refusal: 0,
             length: n as u64,
         },
-        Written::TooLarge => LengthAnswer {
-            refusal: SHEET_TOO_LARGE,
+        Err(refusal) => LengthAnswer {
+            refusal: u32::from(refusal),
             length: 0,
         },
     }

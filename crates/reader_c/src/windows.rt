@@ -4,7 +4,7 @@ ghost use Rattle.validity.specs.Rule.{naming_on};
 ghost use Rattle.validity.specs.Windows.{place_by_state};
 ghost use Rattle.reader_c.specs.NameOnAnswer.{on_answer};
 
-use validity::{Date, NamedOn, Window, WindowState};
+use validity::{Date, Window, WindowState};
 
 // The refusal's number, 0 when accepted; 1 and the place of the name in the image, its length and its first byte's
 // offset; or zeros. The length is below 2^32, since it is an entry's length word minus 1.
@@ -22,20 +22,20 @@ fn answer_by(image: &[u8], id: u32, date: Date, s: WindowState) -> OnAnswer
     ensures { result ≡ on_answer (place_by_state image.now id date s) }
 {
     match validity::place_by_state(image, id, date, s) {
-        NamedOn::Place { start, len } => OnAnswer {
+        Ok(Some(place)) => OnAnswer {
             refusal: 0,
             found: 1,
-            len: len as u32,
-            start: start as u64,
+            len: place.len as u32,
+            start: place.start as u64,
         },
-        NamedOn::Nothing => OnAnswer {
+        Ok(None) => OnAnswer {
             refusal: 0,
             found: 0,
             len: 0,
             start: 0,
         },
-        NamedOn::Refused(k) => OnAnswer {
-            refusal: k,
+        Err(refusal) => OnAnswer {
+            refusal: u32::from(refusal),
             found: 0,
             len: 0,
             start: 0,

@@ -40,10 +40,14 @@
 ghost use Rattle.std.specs.Prelude.{◌≤◌, length, IfOk};
 
 use image::Mode;
-use jhash::Hashed;
+use read::Reading;
 use std::io;
 use std::io::{Read, Write};
-use writer::{CQDBWriter, Repeats};
+use tags::Tag;
+use verdict::{Counts, Verdict};
+use words::Words;
+use write::Writing;
+use writer::Repeats;
 
 mod hex; // hex.rt: numbers and bytes written as hexadecimal digits
 mod read; // read.rt: lines about an image that is read
@@ -53,103 +57,33 @@ mod verdict; // verdict.rt: the counts of the verdicts
 mod words; // words.rt: a line's words
 mod write; // write.rt: lines about the writer and its image
 
-use verdict::{Counts, Verdict, equal_if};
-
-// What the lines so far left: the length of the image that is read and the id before which the walk stands; the
-// writer record, the size of the image that close made last, and how many of its bytes have been compared.
-#[derive(Clone, Copy)]
-struct State {
-    len: usize,
-    next: u32,
-    writer: CQDBWriter,
-    size: usize,
-    done: usize,
-}
-
-// What a line left, and its verdict.
-#[derive(Clone, Copy)]
-struct Step {
-    state: State,
-    verdict: Verdict,
-}
-
 // Has a name this hash?
 fn has_hash(name: &[u8], start: u32, want: u32) -> bool {
-    match jhash::jhash(name, start) {
-        Hashed::Hash(h) => h == want,
-        Hashed::Refused => false,
-    }
+    jhash::jhash(name, start) == Ok(want)
 }
 
 // The verdict on a start value, a hash and a name.
-fn hashed(start: &[u8], want: &[u8], name: &[u8]) -> Verdict {
-    let s = hex::number(start);
-    let w = hex::number(want);
+fn hashed(start: &[u8], want: &[u8], name: &[u8]) -> Option<Verdict> {
     let mut room = [0u8; 1024];
-    let n = hex::decode(name, &mut room);
-    if 1024 < n {
-        return Verdict::Malformed;
-    }
-    if hex::LARGEST < s {
-        return Verdict::Malformed;
-    }
-    if hex::LARGEST < w {
-        return Verdict::Malformed;
-    }
-    equal_if(has_hash(&room[0..n], s as u32, w as u32))
+    let n = hex::decode(name, &mut room)?;
+    let start = hex::number(start)?;
+    let want = hex::number(want)?;
+    Some(Verdict::from(has_hash(&room[..n], start, want)))
 }
 
-// Any line.
-fn any_line(
-    s: State,
-    line: &[u8],
-    image: &mut [u8],
-    counts: &mut [u32; 256],
-    buf: &mut [u8],
-) -> Step {
-    if words::skipped(line) {
-        return Step {
-            state: s,
-            verdict: Verdict::Silent,
-        };
-    }
-    let tag = words::tag(line);
-    let rest = words::rest(line);
-    let first = words::first(rest);
-    let second = words::first(words::rest(rest));
-    if tag == tags::HASH {
-        return Step {
-            state: s,
-            verdict: hashed(first, second, words::rest(words::rest(rest))),
-        };
-    }
-    if tag == tags::ROTA {
-        return Step {
-            state: s,
-            verdict: rotations::line(first, second, words::rest(words::rest(rest))),
-        };
-    }
-    if tags::of_writer(tag) {
-        return write::line(s, tag, first, second, &mut *counts, &mut *buf);
-    }
-    read::line(s, tag, first, second, &mut *image)
-}
-
-// Before the first line: no image, and a record for no bytes, which fits nothing.
-fn nothing_yet() -> State {
-    State {
-        len: 0,
-        next: 0,
-        writer: CQDBWriter {
-            mode: Mode::Twoway,
-            repeats: Repeats::On,
-            length: 0,
-            end: 0,
-            entries: 0,
-            back: 0,
-        },
-        size: 0,
-        done: 0,
+// Any line that is not skipped; `None` where it cannot be read.
+fn any_line(reading: &mut Reading<'_>, writing: &mut Writing<'_>, line: &[u8]) -> Option<Verdict> {
+    let words = Words::of(line);
+    let first = words.first;
+    let second = words.second;
+    match Tag::parse(words.tag)? {
+        Tag::Hash => hashed(first, second, words.rest),
+        Tag::Rota => rotations::line(first, second, words.rest),
+        Tag::Change(change) => reading.change(change, first, second),
+        Tag::Walk => reading.begin_walk(),
+        Tag::Ask(ask) => reading.ask(ask, first, second),
+        Tag::Call(call) => writing.call(call, first, second),
+        Tag::Look(look) => writing.look(look, first, second),
     }
 }
 
@@ -157,16 +91,15 @@ fn nothing_yet() -> State {
 fn replay<W: Write>(
     output: &mut W,
     text: &[u8],
-    image: &mut [u8],
-    counts: &mut [u32; 256],
-    buf: &mut [u8],
+    reading: &mut Reading<'_>,
+    writing: &mut Writing<'_>,
 ) -> io::Result<Counts> {
-    let mut seen = verdict::none();
-    let mut state = nothing_yet();
+    let mut seen = Counts::default();
     for line in text.split(|b| *b == b'\n') {
-        let left = any_line(state, line, &mut *image, &mut *counts, &mut *buf);
-        state = left.state;
-        seen = verdict::counted(output, seen, line, left.verdict)?;
+        if !words::skipped(line) {
+            let verdict = any_line(&mut *reading, &mut *writing, line);
+            seen.count(&mut *output, line, verdict)?;
+        }
     }
     Ok(seen)
 }
@@ -187,7 +120,8 @@ fn read_full<R: Read>(input: &mut R, buf: &mut [u8]) -> io::Result<usize>
     Ok(n)
 }
 
-// A read or a write that fails ends the program with its error.
+// A read or a write that fails ends the program with its error. Before the first line there is no image, and a record
+// for no bytes, which fits nothing.
 fn main(rt: HostRuntime) -> io::Result<()> {
     let mut text = [0u8; 262144];
     let mut image = [0u8; 16384];
@@ -195,6 +129,17 @@ fn main(rt: HostRuntime) -> io::Result<()> {
     let mut counts = [0u32; 256];
     let n = read_full(&mut rt.reader(), &mut text)?;
     let mut output = io::writer(&rt);
-    let seen = replay(&mut output, &text[..n], &mut image, &mut counts, &mut buf)?;
-    verdict::print(&mut output, seen)
+    let mut reading = Reading {
+        buf: &mut image,
+        len: 0,
+        walk: reader::id_walk::iter(),
+    };
+    let mut writing = Writing {
+        writer: writer::record::fresh_writer(Mode::Twoway, Repeats::On, 0),
+        counts: &mut counts,
+        buf: &mut buf,
+        size: 0,
+        done: 0,
+    };
+    replay(&mut output, &text[..n], &mut reading, &mut writing)?.print(&mut output)
 }

@@ -1,196 +1,88 @@
 // Lines about an image that is read: changes of it, and what the original answers on it.
-use super::verdict::{Verdict, equal_if};
-use super::{State, Step, hex, tags};
-use reader::{Iter, Named, Opened, Stepped, ToId};
+use super::hex;
+use super::tags::{Ask, Change};
+use super::verdict::Verdict;
+use reader::{Iter, id_walk};
 
-// So many zero bytes from the start on.
-fn zero(n: usize, buf: &mut [u8]) -> Verdict {
-    if buf.len() < n {
-        return Verdict::Malformed;
-    }
-    let mut i = 0;
-    while i < n {
-        buf[i] = 0;
-        i += 1;
-    }
-    Verdict::Silent
+// The image that is read, which is the first `len` bytes of a buffer, and a walk over its ids.
+#[derive(Drop)]
+pub struct Reading<'a> {
+    pub buf: &'a mut [u8],
+    pub len: usize,
+    pub walk: Iter,
 }
 
-// These bytes from a place on.
-fn edit(at: usize, text: &[u8], buf: &mut [u8]) -> Verdict {
-    if buf.len() < at {
-        return Verdict::Malformed;
-    }
-    let room = buf.len() - at;
-    if room < hex::decode(text, &mut buf[at..]) {
-        return Verdict::Malformed;
-    }
-    Verdict::Silent
-}
-
-// A line that changes the image, with the number n.
-fn changed(s: State, tag: u32, n: usize, text: &[u8], buf: &mut [u8]) -> Step {
-    let mut after = s;
-    if tag == tags::EDIT {
-        return Step {
-            state: after,
-            verdict: edit(n, text, &mut *buf),
-        };
-    }
-    after.len = n;
-    if tag == tags::ZERO {
-        return Step {
-            state: after,
-            verdict: zero(n, &mut *buf),
-        };
-    }
-    Step {
-        state: after,
-        verdict: Verdict::Silent,
+// Is the answer the one that a line stores, with this number and this name?
+fn agrees(ask: Ask, n: u32, name: &[u8], walk: Iter, image: &[u8]) -> bool {
+    match ask {
+        Ask::Open => reader::open(image) == Ok(n),
+        Ask::Fail => reader::open(image).is_err_and(|refusal| u32::from(refusal) == n),
+        Ask::Find => reader::to_id(image, name)
+            .hit
+            .is_some_and(|hit| hit.id == n),
+        Ask::Miss => reader::to_id(image, name).hit.is_none(),
+        Ask::Name => reader::name_given(image, n) == Some(name),
+        Ask::Void => reader::name_given(image, n).is_none(),
+        Ask::Home => consistency::home(image, n),
+        Ask::Away => !consistency::home(image, n),
+        Ask::Left => id_walk::size_hint(image, walk) == n,
+        Ask::Item => id_walk::next(image, walk).is_some_and(|item| item.id == n
+            && reader::name(image, item.id) == name),
+        Ask::Ends => id_walk::next(image, walk).is_none(),
     }
 }
 
-// Does open give this number of entries, or this refusal?
-fn opens_as(tag: u32, n: u32, image: &[u8]) -> bool {
-    match reader::open(image) {
-        Opened::Num(k) => tag == tags::OPEN && n == k,
-        Opened::Refused(refusal) => tag == tags::FAIL && n == refusal,
-    }
-}
-
-// Does the name find this id, or nothing?
-fn finds_as(tag: u32, n: u32, name: &[u8], image: &[u8]) -> bool {
-    match reader::to_id(image, name) {
-        ToId::Found(found) => tag == tags::FIND && n == found.id,
-        ToId::Nothing { buckets: _ } => tag == tags::MISS,
-    }
-}
-
-// Has the id this name, or none?
-fn names_as(tag: u32, id: u32, name: &[u8], image: &[u8]) -> bool {
-    match reader::to_str(image, id) {
-        Named::Place { start: _, len: _ } => {
-            tag == tags::NAME && reader::name(image, id) == name
+impl<'a> Reading<'a> {
+    // A line that changes the image.
+    pub fn change(&mut self, change: Change, first: &[u8], second: &[u8]) -> Option<Verdict> {
+        let n = hex::number(first)? as usize;
+        match change {
+            Change::Zero => {
+                self.len = n;
+                self.buf.get_mut(..n)?.fill(0);
+            }
+            Change::Edit => {
+                hex::decode(second, self.buf.get_mut(n..)?)?;
+            }
+            Change::Size => self.len = n,
         }
-        Named::Nothing => tag == tags::VOID,
+        Some(Verdict::Silent)
     }
-}
 
-// Is the id home, or away?
-fn home_as(tag: u32, id: u32, image: &[u8]) -> bool {
-    if consistency::home(image, id) {
-        tag == tags::HOME
-    } else {
-        tag == tags::AWAY
+    // The image, where the buffer is as long.
+    fn image(&self) -> Option<&[u8]> {
+        let len = self.len;
+        self.buf.get(..len)
     }
-}
 
-// Does the next step of the walk give this id and its name, or the end?
-fn steps_as(tag: u32, n: u32, name: &[u8], next: u32, image: &[u8]) -> bool {
-    match reader::id_walk::next(image, Iter { next }) {
-        Stepped::Item {
-            id,
-            start: _,
-            len: _,
-            iter: _,
-        } => tag == tags::ITEM && n == id && reader::name(image, id) == name,
-        Stepped::Done => tag == tags::ENDS,
+    // A line that begins a new walk.
+    pub fn begin_walk(&mut self) -> Option<Verdict> {
+        self.image()?;
+        self.walk = id_walk::iter();
+        Some(Verdict::Silent)
     }
-}
 
-// Where the walk stands after a step.
-fn after_step(next: u32, image: &[u8]) -> u32 {
-    match reader::id_walk::next(image, Iter { next }) {
-        Stepped::Item {
-            id: _,
-            start: _,
-            len: _,
-            iter,
-        } => iter.next,
-        Stepped::Done => next,
+    // The walk after a line that asks: one about its next step takes it.
+    fn stands(&self, ask: Ask) -> Option<Iter> {
+        let walk = self.walk;
+        let image = self.image()?;
+        Some(match ask {
+            Ask::Item | Ask::Ends => id_walk::next(image, walk).map_or(walk, |item| item.iter),
+            _ => walk,
+        })
     }
-}
 
-// Where the walk stands after a line.
-fn stands(tag: u32, next: u32, image: &[u8]) -> u32 {
-    if tag == tags::WALK {
-        return reader::id_walk::iter().next;
-    }
-    if tag == tags::ITEM || tag == tags::ENDS {
-        return after_step(next, image);
-    }
-    next
-}
-
-// Is the answer the one that a line with this tag, number and name stores?
-fn agrees(tag: u32, n: u32, name: &[u8], next: u32, image: &[u8]) -> bool {
-    if tag == tags::OPEN || tag == tags::FAIL {
-        return opens_as(tag, n, image);
-    }
-    if tag == tags::FIND || tag == tags::MISS {
-        return finds_as(tag, n, name, image);
-    }
-    if tag == tags::NAME || tag == tags::VOID {
-        return names_as(tag, n, name, image);
-    }
-    if tag == tags::HOME || tag == tags::AWAY {
-        return home_as(tag, n, image);
-    }
-    if tag == tags::LEFT {
-        return reader::id_walk::size_hint(image, Iter { next }) == n;
-    }
-    steps_as(tag, n, name, next, image)
-}
-
-// The verdict on a tag, a number and a name in hexadecimal digits.
-fn compare(tag: u32, n: u64, name: &[u8], next: u32, image: &[u8]) -> Verdict {
-    let mut room = [0u8; 1024];
-    let k = hex::decode(name, &mut room);
-    if 1024 < k {
-        return Verdict::Malformed;
-    }
-    if hex::LARGEST < n {
-        return Verdict::Malformed;
-    }
-    equal_if(agrees(tag, n as u32, &room[0..k], next, image))
-}
-
-// The verdict on a line that asks. A line about a missing name, or the end of a walk, has no number.
-fn asked(tag: u32, first: &[u8], second: &[u8], next: u32, image: &[u8]) -> Verdict {
-    if tag == tags::WALK {
-        return Verdict::Silent;
-    }
-    if tag == tags::MISS || tag == tags::ENDS {
-        return compare(tag, 0, first, next, image);
-    }
-    if !tags::asks(tag) {
-        return Verdict::Malformed;
-    }
-    compare(tag, hex::number(first), second, next, image)
-}
-
-// A line about the image.
-pub(super) fn line(s: State, tag: u32, first: &[u8], second: &[u8], buf: &mut [u8]) -> Step {
-    if tag == tags::ZERO || tag == tags::EDIT || tag == tags::SIZE {
-        let n = hex::number(first);
-        if n <= hex::LARGEST {
-            return changed(s, tag, n as usize, second, &mut *buf);
-        }
-    }
-    let len = s.len;
-    if buf.len() < len {
-        return Step {
-            state: s,
-            verdict: Verdict::Malformed,
+    // A line that asks. One about a missing name, or the end of a walk, has no number.
+    pub fn ask<'b>(&mut self, ask: Ask, first: &'b [u8], second: &'b [u8]) -> Option<Verdict> {
+        let walk = self.walk;
+        self.walk = self.stands(ask)?;
+        let (n, name) = match ask {
+            Ask::Miss | Ask::Ends => (0, first),
+            _ => (hex::number(first)?, second),
         };
-    }
-    let image = &buf[0..len];
-    let next = s.next;
-    let verdict = asked(tag, first, second, next, image);
-    let mut after = s;
-    after.next = stands(tag, next, image);
-    Step {
-        state: after,
-        verdict,
+        let mut room = [0u8; 1024];
+        let k = hex::decode(name, &mut room)?;
+        let image = self.image()?;
+        Some(Verdict::from(agrees(ask, n, &room[..k], walk, image)))
     }
 }

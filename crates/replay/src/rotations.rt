@@ -2,13 +2,12 @@
 // its table is read; and once more with 32 more, which has to give the same. The hash rotates by constants, so these
 // lines alone read the table.
 use super::hex;
-use super::verdict::{Verdict, equal_if};
+use super::verdict::Verdict;
 
 const WORDS: u32 = 131072;
 
-// What became of the words at one amount: how many answers were not lookup3's own `rot` (two shifts and an or), and the
-// sum of all.
-#[derive(Clone, Copy)]
+// What became of the words at one amount: how many answers were not the library's own rotation, and the sum of all.
+#[derive(Clone, Copy, Default)]
 struct Tally {
     different: u64,
     sum: u64,
@@ -16,59 +15,39 @@ struct Tally {
 
 // The word after x, so that all are different.
 fn next(x: u32) -> u32 {
-    ((x as u64 * 1664525 + 1013904223) % 4294967296) as u32
+    x.wrapping_mul(1664525).wrapping_add(1013904223)
 }
 
-// x rotated by k bits, by shifts.
-fn shifted(x: u32, k: u32) -> u32 {
-    if k == 0 {
-        return x;
+impl Tally {
+    // One word more. The sums stay far below 2^64.
+    fn add(&mut self, x: u32, k: u32) {
+        let r = jhash::rotate_left(x, k);
+        if r != x.rotate_left(k) || r != jhash::rotate_left(x, k.wrapping_add(32)) {
+            self.different = self.different.wrapping_add(1);
+        }
+        self.sum = self.sum.wrapping_add(r as u64);
     }
-    if 31 < k {
-        return 0;
-    }
-    (x << k) | (x >> (32 - k))
-}
 
-// One word more. The sums stay far below 2^64.
-fn with_word(tally: Tally, x: u32, k: u32) -> Tally {
-    let r = jhash::rotate_left(x, k);
-    let again = jhash::rotate_left(x, std::num::wrapping_add_u32(k, 32));
-    let wrong = if r == shifted(x, k) && r == again {
-        0
-    } else {
-        1
-    };
-    Tally {
-        different: std::num::wrapping_add_u64(tally.different, wrong),
-        sum: std::num::wrapping_add_u64(tally.sum, r as u64),
+    // All words at one amount.
+    fn at_amount(k: u32) -> Tally {
+        let mut tally = Tally::default();
+        let mut x = 0;
+        for _ in 0..WORDS {
+            tally.add(x, k);
+            x = next(x);
+        }
+        tally
     }
-}
-
-// All words at one amount.
-fn at_amount(k: u32) -> Tally {
-    let mut tally = Tally {
-        different: 0,
-        sum: 0,
-    };
-    let mut x = 0;
-    let mut i = 0;
-    while i < WORDS {
-        tally = with_word(tally, x, k);
-        x = next(x);
-        i = i + 1;
-    }
-    tally
 }
 
 // The verdict on an amount and the two halves of the sum.
-pub(super) fn line(amount: &[u8], high: &[u8], low: &[u8]) -> Verdict {
-    let k = hex::number(amount);
+pub(super) fn line(amount: &[u8], high: &[u8], low: &[u8]) -> Option<Verdict> {
+    let k = hex::number(amount)?;
     if 31 < k {
-        return Verdict::Malformed;
+        return None;
     }
-    let tally = at_amount(k as u32);
-    let sum = tally.sum;
-    let same = sum / 4294967296 == hex::number(high) && sum % 4294967296 == hex::number(low);
-    equal_if(tally.different == 0 && same)
+    let tally = Tally::at_amount(k);
+    let same = hex::number(high) == Some((tally.sum >> 32) as u32)
+        && hex::number(low) == Some((tally.sum & 0xffff_ffff) as u32);
+    Some(Verdict::from(tally.different == 0 && same))
 }

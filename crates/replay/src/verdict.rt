@@ -2,40 +2,32 @@
 use std::io;
 use std::io::Write;
 
-// What became of a line: its stored answer is the one that was given, or another; it could not be read; or it asks for
-// no answer.
+// What became of a line that could be read: its stored answer is the one that was given, or another; or it asks for no
+// answer.
 #[derive(Clone, Copy)]
 pub enum Verdict {
     Equal,
     Different,
-    Malformed,
     Silent,
 }
 
+// Whether an answer is the stored one.
+impl From<bool> for Verdict {
+    fn from(same: bool) -> Verdict {
+        if same {
+            Verdict::Equal
+        } else {
+            Verdict::Different
+        }
+    }
+}
+
 // How many lines had a stored answer that was given, that was not, and how many could not be read.
-#[derive(Clone, Copy)]
+#[derive(Clone, Copy, Default)]
 pub struct Counts {
     pub equal: u64,
     pub different: u64,
     pub malformed: u64,
-}
-
-// Before the first line.
-pub(super) fn none() -> Counts {
-    Counts {
-        equal: 0,
-        different: 0,
-        malformed: 0,
-    }
-}
-
-// Whether an answer is the stored one.
-pub(super) fn equal_if(same: bool) -> Verdict {
-    if same {
-        Verdict::Equal
-    } else {
-        Verdict::Different
-    }
 }
 
 fn print_line<W: Write>(output: &mut W, label: &[u8], line: &[u8]) -> io::Result<()> {
@@ -44,38 +36,34 @@ fn print_line<W: Write>(output: &mut W, label: &[u8], line: &[u8]) -> io::Result
     output.write_all(b"\n")
 }
 
-// One more line with this verdict. It is printed where it is different or malformed.
-pub(super) fn counted<W: Write>(
-    output: &mut W,
-    c: Counts,
-    line: &[u8],
-    v: Verdict,
-) -> io::Result<Counts> {
-    let mut after = c;
-    match v {
-        Verdict::Equal => {
-            after.equal = std::num::wrapping_add_u64(after.equal, 1);
+impl Counts {
+    // One more line with this verdict, `None` where it could not be read. It is printed where it is different or could
+    // not be read.
+    pub fn count<W: Write>(
+        &mut self,
+        output: &mut W,
+        line: &[u8],
+        verdict: Option<Verdict>,
+    ) -> io::Result<()> {
+        match verdict {
+            Some(Verdict::Equal) => self.equal = self.equal.wrapping_add(1),
+            Some(Verdict::Different) => {
+                print_line(output, b"different: ", line)?;
+                self.different = self.different.wrapping_add(1);
+            }
+            Some(Verdict::Silent) => {}
+            None => {
+                print_line(output, b"malformed: ", line)?;
+                self.malformed = self.malformed.wrapping_add(1);
+            }
         }
-        Verdict::Different => {
-            print_line(output, b"different: ", line)?;
-            after.different = std::num::wrapping_add_u64(after.different, 1);
-        }
-        Verdict::Malformed => {
-            print_line(output, b"malformed: ", line)?;
-            after.malformed = std::num::wrapping_add_u64(after.malformed, 1);
-        }
-        Verdict::Silent => {}
+        Ok(())
     }
-    Ok(after)
-}
 
-fn print_number<W: Write>(output: &mut W, label: &str, n: u64) -> io::Result<()> {
-    writeln!(output, "{label}{n}")
-}
-
-// Writes the counts out.
-pub(super) fn print<W: Write>(output: &mut W, c: Counts) -> io::Result<()> {
-    print_number(output, "equal ", c.equal)?;
-    print_number(output, "different ", c.different)?;
-    print_number(output, "malformed ", c.malformed)
+    // Writes the counts out.
+    pub fn print<W: Write>(self, output: &mut W) -> io::Result<()> {
+        writeln!(output, "equal {}", self.equal)?;
+        writeln!(output, "different {}", self.different)?;
+        writeln!(output, "malformed {}", self.malformed)
+    }
 }

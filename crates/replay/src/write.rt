@@ -1,199 +1,114 @@
 // Lines about the writer: its calls, and what the image is that close made last.
-use super::verdict::{Verdict, equal_if};
-use super::{State, Step, has_hash, hex, tags};
+use super::tags::{Call, Look};
+use super::verdict::Verdict;
+use super::{has_hash, hex};
 use image::Mode;
-use writer::{Begun, CQDBWriter, Closed, Repeats};
+use jhash::refusals::Refusal;
+use writer::{CQDBWriter, Repeats};
 
-// A state with another record, and a verdict.
-fn with_record(s: State, writer: CQDBWriter, size: usize, done: usize, verdict: Verdict) -> Step {
-    Step {
-        state: State {
-            len: s.len,
-            next: s.next,
-            writer,
-            size,
-            done,
-        },
-        verdict,
-    }
-}
-
-// The same state, and a verdict.
-fn judged(s: State, verdict: Verdict) -> Step {
-    Step { state: s, verdict }
-}
-
-// A fresh record for the first n bytes of the buffer, in the repeats mode: the Rust takes every repeat.
-fn begin(s: State, mode: Mode, n: usize, counts: &mut [u32; 256], buf: &[u8]) -> Step {
-    if buf.len() < n {
-        return judged(s, Verdict::Malformed);
-    }
-    match writer::begin(mode, Repeats::On, &mut *counts, &buf[0..n]) {
-        Begun::Fresh(fresh) => with_record(s, fresh, 0, 0, Verdict::Silent),
-        Begun::Refused(_) => judged(s, Verdict::Different),
-    }
-}
-
-// A put, into as many bytes of the buffer as the record is for. It is to give this number: its refusal's, 0 where it
-// is accepted.
-fn put(s: State, due: u32, id: u32, name: &[u8], counts: &mut [u32; 256], buf: &mut [u8]) -> Step {
-    let w = s.writer;
-    let n = w.length as usize;
-    let mut room = [0u8; 1024];
-    let k = hex::decode(name, &mut room);
-    if 1024 < k {
-        return judged(s, Verdict::Malformed);
-    }
-    if buf.len() < n {
-        return judged(s, Verdict::Malformed);
-    }
-    let p = writer::put(w, &mut *counts, &mut buf[0..n], &room[0..k], id);
-    let after = p.writer;
-    with_record(s, after, s.size, s.done, equal_if(p.refusal == due))
-}
-
-// The size that close gives.
-fn close(s: State, size: u32, counts: &[u32; 256], buf: &mut [u8]) -> Step {
-    let w = s.writer;
-    let n = w.length as usize;
-    if buf.len() < n {
-        return judged(s, Verdict::Malformed);
-    }
-    let c = writer::close(w, counts, &mut buf[0..n]);
-    let answer = c.answer;
-    let after = c.writer;
-    match answer {
-        Closed::Size(given) => with_record(s, after, given as usize, 0, equal_if(given == size)),
-        Closed::Refused(_) => judged(s, Verdict::Different),
-    }
-}
-
-// A call with the number n.
-fn called(
-    s: State,
-    tag: u32,
-    n: u32,
-    name: &[u8],
-    counts: &mut [u32; 256],
-    buf: &mut [u8],
-) -> Step {
-    if tag == tags::NEW2 {
-        return begin(s, Mode::Twoway, n as usize, &mut *counts, &*buf);
-    }
-    if tag == tags::NEW1 {
-        return begin(s, Mode::Oneway, n as usize, &mut *counts, &*buf);
-    }
-    if tag == tags::PUTS {
-        return put(s, 0, n, name, &mut *counts, &mut *buf);
-    }
-    if tag == tags::FULL {
-        return put(s, 3, n, name, &mut *counts, &mut *buf);
-    }
-    close(s, n, &*counts, &mut *buf)
+// The writer and what is lent to it; the size of the image that close made last, and how many of its bytes have been
+// compared.
+#[derive(Drop)]
+pub struct Writing<'a> {
+    pub writer: CQDBWriter,
+    pub counts: &'a mut [u32; 256],
+    pub buf: &'a mut [u8],
+    pub size: usize,
+    pub done: usize,
 }
 
 // The hashes of an image with two start values.
-fn sums(image: &[u8], first: &[u8], second: &[u8]) -> Verdict {
-    let a = hex::number(first);
-    let b = hex::number(second);
-    if hex::LARGEST < a {
-        return Verdict::Malformed;
-    }
-    if hex::LARGEST < b {
-        return Verdict::Malformed;
-    }
-    equal_if(has_hash(image, 0, a as u32) && has_hash(image, 0xdead_beef, b as u32))
+fn sums(image: &[u8], first: &[u8], second: &[u8]) -> Option<Verdict> {
+    let a = hex::number(first)?;
+    let b = hex::number(second)?;
+    Some(Verdict::from(has_hash(image, 0, a) && has_hash(image, 0xdead_beef, b)))
 }
 
-// Are these bytes zeros?
-fn all_zero(bytes: &[u8]) -> bool {
-    let mut i = 0;
-    while i < bytes.len() {
-        if bytes[i] != 0 {
-            return false;
+impl<'a> Writing<'a> {
+    // A fresh record for the first n bytes of the buffer, in the repeats mode: the Rust takes every repeat.
+    fn begin(&mut self, mode: Mode, n: usize) -> Option<Verdict> {
+        let buf = self.buf.get_mut(..n)?;
+        let Ok(fresh) = writer::begin(mode, Repeats::On, &mut *self.counts, &*buf) else {
+            return Some(Verdict::Different);
+        };
+        self.writer = fresh;
+        self.size = 0;
+        self.done = 0;
+        Some(Verdict::Silent)
+    }
+
+    // A put, into as many bytes of the buffer as the record is for. It is to give this answer.
+    fn put(&mut self, due: Result<(), Refusal>, id: u32, name: &[u8]) -> Option<Verdict> {
+        let mut room = [0u8; 1024];
+        let k = hex::decode(name, &mut room)?;
+        let buf = self.buf.get_mut(..self.writer.length as usize)?;
+        let answer = self.writer.put(&mut *self.counts, buf, &room[..k], id);
+        Some(Verdict::from(answer == due))
+    }
+
+    // The size that close gives.
+    fn close(&mut self, size: u32) -> Option<Verdict> {
+        let buf = self.buf.get_mut(..self.writer.length as usize)?;
+        let Ok(given) = self.writer.close(&*self.counts, buf) else {
+            return Some(Verdict::Different);
+        };
+        self.size = given as usize;
+        self.done = 0;
+        Some(Verdict::from(given == size))
+    }
+
+    // A line that calls the writer.
+    pub fn call(&mut self, call: Call, first: &[u8], second: &[u8]) -> Option<Verdict> {
+        let n = hex::number(first)?;
+        match call {
+            Call::New2 => self.begin(Mode::Twoway, n as usize),
+            Call::New1 => self.begin(Mode::Oneway, n as usize),
+            Call::Puts => self.put(Ok(()), n, second),
+            Call::Full => self.put(Err(Refusal::NoRoom), n, second),
+            Call::Clos => self.close(n),
         }
-        i += 1;
     }
-    true
-}
 
-// The next n bytes of the image have been compared.
-fn advanced(s: State, n: usize, same: bool) -> Step {
-    let mut after = s;
-    after.done = std::num::wrapping_add_usize(s.done, n);
-    judged(after, equal_if(same))
-}
+    // The image of the last close.
+    fn image(&self) -> Option<&[u8]> {
+        let size = self.size;
+        self.buf.get(..size)
+    }
 
-// The bytes of an image behind the compared ones.
-fn behind<'a>(image: &'a [u8], done: usize) -> &'a [u8] {
-    if image.len() < done {
-        return &image[image.len()..];
+    // The next n bytes of the image are as this says; they have then been compared.
+    fn next_are<F: FnOnce(&[u8]) -> bool>(&mut self, n: usize, due: F) -> Option<Verdict>
+        requires { F.IsAlwaysCallable due }
+    {
+        let done = self.done;
+        let Some(next) = self.image()?.get(done..)?.get(..n) else {
+            return Some(Verdict::Different);
+        };
+        let same = due(next);
+        self.done = done.wrapping_add(n);
+        Some(Verdict::from(same))
     }
-    &image[done..]
-}
 
-// The next bytes of the image are these.
-fn part(s: State, text: &[u8], image: &[u8]) -> Step {
-    let mut room = [0u8; 1024];
-    let n = hex::decode(text, &mut room);
-    if 1024 < n {
-        return judged(s, Verdict::Malformed);
+    // The next bytes of the image are these.
+    fn part(&mut self, text: &[u8]) -> Option<Verdict> {
+        let mut room = [0u8; 1024];
+        let n = hex::decode(text, &mut room)?;
+        self.next_are(n, |next| next == &room[..n])
     }
-    let rest = behind(image, s.done);
-    if rest.len() < n {
-        return judged(s, Verdict::Different);
-    }
-    advanced(s, n, rest[..n] == room[..n])
-}
 
-// The next bytes, so many, are zeros.
-fn nils(s: State, text: &[u8], image: &[u8]) -> Step {
-    let k = hex::number(text);
-    if hex::LARGEST < k {
-        return judged(s, Verdict::Malformed);
+    // The next bytes, so many, are zeros.
+    fn nils(&mut self, text: &[u8]) -> Option<Verdict> {
+        let n = hex::number(text)? as usize;
+        self.next_are(n, |next| next.iter().all(|b| *b == 0))
     }
-    let n = k as usize;
-    let rest = behind(image, s.done);
-    if rest.len() < n {
-        return judged(s, Verdict::Different);
-    }
-    advanced(s, n, all_zero(&rest[0..n]))
-}
 
-// A line about the image of the last close.
-fn looked(s: State, tag: u32, first: &[u8], second: &[u8], buf: &[u8]) -> Step {
-    let size = s.size;
-    if buf.len() < size {
-        return judged(s, Verdict::Malformed);
+    // A line about the image of the last close.
+    pub fn look(&mut self, look: Look, first: &[u8], second: &[u8]) -> Option<Verdict> {
+        let image = self.image()?;
+        match look {
+            Look::Sums => sums(image, first, second),
+            Look::Part => self.part(first),
+            Look::Nils => self.nils(first),
+            Look::Last => Some(Verdict::from(self.done == self.size)),
+        }
     }
-    let image = &buf[0..size];
-    if tag == tags::SUMS {
-        return judged(s, sums(image, first, second));
-    }
-    if tag == tags::LAST {
-        return judged(s, equal_if(s.done == size));
-    }
-    if tag == tags::PART {
-        return part(s, first, image);
-    }
-    nils(s, first, image)
-}
-
-// A line about the writer: a call, or one about the image.
-pub(super) fn line(
-    s: State,
-    tag: u32,
-    first: &[u8],
-    second: &[u8],
-    counts: &mut [u32; 256],
-    buf: &mut [u8],
-) -> Step {
-    if tags::looks(tag) {
-        return looked(s, tag, first, second, &*buf);
-    }
-    let n = hex::number(first);
-    if hex::LARGEST < n {
-        return judged(s, Verdict::Malformed);
-    }
-    called(s, tag, n as u32, second, &mut *counts, &mut *buf)
 }

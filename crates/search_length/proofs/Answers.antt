@@ -11,10 +11,13 @@ use Rattle.jhash.specs.Outcome.{Outcome, value, refusal}
 use Rattle.image.proofs.Bools.{false_not_true}
 use Rattle.reader.specs.Open.{opening}
 use Rattle.canonical.specs.Canonical.{canonical, counted}
-use Rattle.canonical.specs.Steps.Contracts.{CanonicalWithEntries}
 use Rattle.canonical.proofs.EntriesAhead.{puts_number}
 use Rattle.search_length.specs.declared.AverageLength.{AverageLength}
-use Rattle.search_length.specs.Steps.Contracts.{Counted}
+use Rattle.search_length.specs.Steps.Contracts.{SomeEntries, ImageRefused, Counted}
+use Rattle.jhash.specs.Refusals.{number_of}
+use Rattle.jhash.proofs.Outcomes.{number_some}
+use Rattle.jhash.specs.declared.refusals.Refusal.{Refusal}
+use Rattle.jhash.specs.declared.refusals.Refusal.TheVariants.{NotCanonical, NoEntries}
 use Rattle.search_length.specs.Average.{entry_count, first_refusal, average_refusal, average_of, averaging, lengths_of, after_lengths, Lengths}
 
 -- no refusal: the image is canonical, and there are entries
@@ -32,56 +35,65 @@ first_zero true n e = (refl, not_empty (eqb n 0) refl e)
         ]
 first_zero false n e = absurd (omega arith)
 
--- what both calls ask first: the number of entries, whether the image is canonical, and the refusal, 0 for none
-pub record Asked (image : List ℕ) (n : ℕ) (own : Bool) (r : ℕ) : Type 0 where
-  pub number : n ≡ counted (opening image)
-  pub canonical_is : own ≡ canonical image
-  pub first_is : r ≡ first_refusal own n
+-- ---- what both calls ask first: whether the image is canonical, and the number of its entries
 
-module _ {image : List ℕ} {n : ℕ} {own : Bool} {r : ℕ} (q : Asked image n own r) where
-  number_is : n ≡ entry_count image
-  number_is = q.number ∙ sym (puts_number image)
-
-  -- the refusal, or none
-  refusal_is : r ≡ average_refusal image
+module _ (image : List ℕ) {n : ℕ} {own : Bool} (number : n ≡ counted (opening image)) (canonical_is : own ≡ canonical image) where
+  refusal_is : {a : Bool} {k : ℕ} → own ≡ a → n ≡ k → first_refusal a k ≡ average_refusal image
   unfolding average_refusal
-  refusal_is = q.first_is ∙ ap₂ first_refusal q.canonical_is number_is
+  refusal_is e f = rw (← e, ← f) (ap₂ first_refusal canonical_is (number ∙ sym (puts_number image)))
 
-  none_refused : r ≡ 0 → true ≡ eqb (average_refusal image) 0
-  none_refused z = sym (ap (λ (k : ℕ). eqb k 0) (sym refusal_is) ∙ eq-eqb r 0 z)
+  pub not_canonical : own ≡ false → ImageRefused image NotCanonical
+  not_canonical e = refusal_is e refl
 
-  one_refused : (r ≡ 0 → ⊥) → false ≡ eqb (average_refusal image) 0
-  one_refused d = sym (ap (λ (k : ℕ). eqb k 0) (sym refusal_is) ∙ ne_eqb r 0 d)
+  pub no_entries : own ≡ true → n ≡ 0 → ImageRefused image NoEntries
+  no_entries e z = refusal_is e z
 
-  pub refused : (r ≡ 0 → ⊥) → refusal r ≡ averaging image
+  pub some_entries : own ≡ true → (n ≡ 0 → ⊥) → SomeEntries image n
+  some_entries e d = record { own = record { canonical = sym canonical_is ∙ e; number = number }; some = omega arith }
+
+-- ---- an image that is refused
+
+module _ (image : List ℕ) (r : Refusal) (f : ImageRefused image r) where
+  one_refused : false ≡ eqb (average_refusal image) 0
+  one_refused = sym (ap (λ (k : ℕ). eqb k 0) (sym f) ∙ ne_eqb (number_of r) 0 (number_some r))
+
+  pub refused : refusal (number_of r) ≡ averaging image
   unfolding averaging
-  refused d =
-      ap (λ (k : ℕ). refusal k) refusal_is
-      ∙ ap (λ (t : Bool). cond t (value (average_of image)) (refusal (average_refusal image))) (one_refused d)
+  refused =
+      ap (λ (k : ℕ). refusal k) f
+      ∙ ap (λ (t : Bool). cond t (value (average_of image)) (refusal (average_refusal image))) one_refused
 
-  pub some_entries : r ≡ 0 → 0 < n
-  some_entries z = (first_zero own n (sym q.first_is ∙ z)).1
+  -- the list stays as it was
+  pub refused_lengths : (counts : List ℕ) → Lengths image counts counts (number_of r)
+  unfolding after_lengths
+  refused_lengths counts =
+      record { answer = f; leaves = ap (λ (t : Bool). cond t (lengths_of image) counts) one_refused }
 
-  pub accepted : r ≡ 0 → CanonicalWithEntries image n
-  accepted z = record { canonical = sym q.canonical_is ∙ (first_zero own n (sym q.first_is ∙ z)).0; number = q.number }
+-- ---- one that is accepted
 
-  pub averaged : {counts : List ℕ} {sum : ℕ} → r ≡ 0 → Counted image counts sum
+module _ {image : List ℕ} {n : ℕ} (s : SomeEntries image n) where
+  number_is : n ≡ entry_count image
+  number_is = s.own.number ∙ sym (puts_number image)
+
+  not_refused : 0 ≡ average_refusal image
+  unfolding average_refusal
+  not_refused =
+      rw (s.own.canonical, ← number_is, ne_eqb n 0 (λ z. omega (arith, s.some)))
+
+  none_refused : true ≡ eqb (average_refusal image) 0
+  none_refused = ap (λ (k : ℕ). eqb k 0) not_refused
+
+  pub averaged : {counts : List ℕ} {sum : ℕ} → Counted image counts sum
       → value (record { entries = n; quotient = sum / n; remainder = sum % n }) ≡ averaging image
   unfolding averaging
-  averaged z c =
+  averaged c =
       ap₂ average_from c.total number_is
-      ∙ ap (λ (t : Bool). cond t (value (average_of image)) (refusal (average_refusal image))) (none_refused z)
+      ∙ ap (λ (t : Bool). cond t (value (average_of image)) (refusal (average_refusal image))) none_refused
     where
       average_from : ℕ → ℕ → Outcome AverageLength
       average_from s k = value (record { entries = k; quotient = s / k; remainder = s % k })
 
-  -- the histogram: a refusal leaves the list as it was
-  pub refused_lengths : (counts : List ℕ) → (r ≡ 0 → ⊥) → Lengths image counts counts r
+  pub filled_lengths : (counts : List ℕ) {after : List ℕ} {sum : ℕ} → Counted image after sum → Lengths image counts after 0
   unfolding after_lengths
-  refused_lengths counts d =
-      record { answer = refusal_is; leaves = ap (λ (t : Bool). cond t (lengths_of image) counts) (one_refused d) }
-
-  pub filled_lengths : (counts : List ℕ) {after : List ℕ} {sum : ℕ} → r ≡ 0 → Counted image after sum → Lengths image counts after 0
-  unfolding after_lengths
-  filled_lengths counts z c =
-      record { answer = sym z ∙ refusal_is; leaves = c.lengths ∙ ap (λ (t : Bool). cond t (lengths_of image) counts) (none_refused z) }
+  filled_lengths counts c =
+      record { answer = not_refused; leaves = c.lengths ∙ ap (λ (t : Bool). cond t (lengths_of image) counts) none_refused }

@@ -16,7 +16,7 @@ use Rattle.image.proofs.AllOfList.{All, all_map}
 use Rattle.reader.specs.Cases.{reads}
 use Rattle.reader.specs.Lookup.{Lookup, found, nothing, Probe, pass, ends, hit, probe_bucket, decide, search_along, search_table, unsearched, lookup_hash}
 use Rattle.reader.specs.Lookup.{lookup}
-use Rattle.reader.specs.declared.Found.{Found}
+use Rattle.reader.specs.Lookup.{Found}
 use Rattle.reader.proofs.FoundAt.{not_found}
 use Rattle.lookup_laws.specs.Answer.{found_id, table_puts}
 use Rattle.lookup_laws.proofs.ImageAnswers.{found_reads}

@@ -9,7 +9,11 @@ use lib.ListN.{length, get_or, replicate, length-set}
 use lib.Seq.{get_or-set_same, get_or-set_other}
 use lib.Dec.{eqb}
 use borrow.Author.Tests.{eq-eqb, ne_eqb}
+use Rattle.std.specs.Prelude.{Option, Some, None}
 use Rattle.image.specs.Image.{Entry}
+use Rattle.reader.specs.Cases.{reads, found_or_nothing, lookup_of}
+use Rattle.reader.specs.declared.Hit.{Hit}
+use Rattle.reader.specs.declared.ToId.{ToId}
 use Rattle.canonical.specs.Canonical.{puts_in}
 use Rattle.search_length.specs.SearchLengths.{search_length, total_of, bin_of, lengths_from, in_bin}
 use Rattle.search_length.specs.Average.{total, lengths_of}
@@ -45,6 +49,14 @@ place_small : (n : ℕ) → bin_of n < 16
 place_small n = omega arith
 
 -- ---- the walk
+
+-- the buckets read stand beside what a lookup finds
+pub buckets_read : (t : ToId) → t.buckets ≡ reads (lookup_of t)
+buckets_read t = by_hit t.buckets t.hit
+  where
+    by_hit : (n : ℕ) (hit : Option Hit) → n ≡ reads (found_or_nothing n hit)
+    by_hit n (Some h) = refl
+    by_hit n None = refl
 
 -- what the entries ahead, `left` of n, add to the counts and the sum is the whole
 pub record Counting (img : List ℕ) (n : ℕ) (counts : List ℕ) (left sum : ℕ) (es : List Entry) : Type 0 where

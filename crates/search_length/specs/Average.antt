@@ -4,8 +4,6 @@ use Rattle.jhash.specs.Outcome.{Outcome, value, refusal}
 use Rattle.canonical.specs.Canonical.{canonical, puts_in}
 use Rattle.search_length.specs.SearchLengths.{total_of, lengths_from}
 use Rattle.search_length.specs.declared.AverageLength.{AverageLength}
-use Rattle.search_length.specs.declared.Averaged.{Averaged}
-use Rattle.search_length.specs.declared.Averaged.TheVariants as averaged
 use Rattle.jhash.specs.Refusals as refused
 
 -- the number of entries of an image, and the total of buckets read when the name of each is looked up
@@ -45,8 +43,3 @@ after_lengths img counts = cond (eqb (average_refusal img) 0) (lengths_of img) c
 pub record Lengths (img before after : List ℕ) (refusal : ℕ) : Type 0 where
   pub answer : refusal ≡ average_refusal img
   pub leaves : after ≡ after_lengths img before
-
--- the number and the value of each case of the answer
-abbrev pub averaged_of : Averaged → Outcome AverageLength
-averaged_of (averaged.Average a) = value a
-averaged_of (averaged.Refused k) = refusal k

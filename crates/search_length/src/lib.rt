@@ -2,11 +2,13 @@
 // divided by the number of entries. Also how many entries have each length.
 #![tactic(auto)]
 
-ghost use Rattle.std.specs.Prelude.{◌≡◌};
-ghost use Rattle.search_length.specs.Average.{first_refusal, averaging, averaged_of, Lengths};
+ghost use Rattle.std.specs.Prelude.{◌≡◌, MatchResult};
+ghost use Rattle.jhash.specs.Outcome.{outcome_of, refusal_of};
+ghost use Rattle.search_length.specs.Average.{averaging, Lengths};
+ghost use Rattle.search_length.specs.Steps.Contracts.{SomeEntries, ImageRefused};
 
 use canonical::{entry_count, is_canonical};
-use jhash::refusals::{NO_ENTRIES, NOT_CANONICAL};
+use jhash::refusals::Refusal;
 use walks::count_lengths;
 
 mod walks; // walks.rt: the search lengths of the entries
@@ -19,56 +21,42 @@ pub struct AverageLength {
     pub remainder: u64,
 }
 
-// The answer: the average, or the number of the refusal.
-#[derive(Clone, Copy)]
-pub enum Averaged {
-    Average(AverageLength),
-    Refused(u32),
-}
-
-// The refusal of an image of n entries, 0 for none.
-fn first_refusal(valid: bool, n: u32) -> u32
-    ensures { result ≡ first_refusal valid n }
+// The number of entries of an image that the calls accept: it is canonical, and has some.
+fn some_entries(image: &[u8]) -> Result<u32, Refusal>
+    ensures { MatchResult result (SomeEntries image.now) (ImageRefused image.now) }
 {
-    if !valid {
-        return NOT_CANONICAL;
+    let n = entry_count(image);
+    if !is_canonical(image) {
+        return Err(Refusal::NotCanonical);
     }
     if n == 0 {
-        return NO_ENTRIES;
+        return Err(Refusal::NoEntries);
     }
-    0
+    Ok(n)
 }
 
 // The average search length of a canonical image that has entries.
-pub fn average(image: &[u8]) -> Averaged
-    ensures { averaged_of result ≡ averaging image.now }
+pub fn average(image: &[u8]) -> Result<AverageLength, Refusal>
+    ensures { outcome_of result ≡ averaging image.now }
 {
-    let n = entry_count(image);
-    let refusal = first_refusal(is_canonical(image), n);
-    if refusal != 0 {
-        return Averaged::Refused(refusal);
-    }
+    let entries = some_entries(image)?;
     let mut counts = [0; 16];
-    let sum = count_lengths(image, n, &mut counts);
-    let count = n as u64;
-    Averaged::Average(AverageLength {
-        entries: n,
+    let sum = count_lengths(image, entries, &mut counts);
+    let count = entries as u64;
+    Ok(AverageLength {
+        entries,
         quotient: sum / count,
         remainder: sum % count,
     })
 }
 
-// Stores how many entries are found after 1, 2, .. 15 and 16 or more buckets, and returns 0. Or returns the number of
-// the refusal; the list stays as it was.
-pub fn lengths(image: &[u8], counts: &mut [u32; 16]) -> u32
-    ensures { Lengths image.now counts.old counts.new result }
+// Stores how many entries are found after 1, 2, .. 15 and 16 or more buckets. If the call is refused, the list stays as
+// it was.
+pub fn lengths(image: &[u8], counts: &mut [u32; 16]) -> Result<(), Refusal>
+    ensures { Lengths image.now counts.old counts.new (refusal_of result) }
 {
-    let n = entry_count(image);
-    let refusal = first_refusal(is_canonical(image), n);
-    if refusal != 0 {
-        return refusal;
-    }
+    let entries = some_entries(image)?;
     *counts = [0; 16];
-    count_lengths(image, n, &mut *counts);
-    0
+    count_lengths(image, entries, &mut *counts);
+    Ok(())
 }

@@ -1,6 +1,8 @@
 -- Head and rows stored word by word, and a run of zeros. Assumes nothing.
-use Rattle.std.proofs.Common.{◌≡◌, ℕ, suc, ◌+◌, ◌-◌, ◌*◌, ◌%◌, ◌<◌, ◌≤◌, cond, eqb, List, [], ◌∷◌, ◌++◌, length, get_or, set, replicate, sym, refl, ap, ◌∙◌}
-use Rattle.std.proofs.Common.{ap₂, arith, length-append}
+use Rattle.std.proofs.Common.{◌≡◌, ℕ, suc, ◌+◌, ◌-◌, ◌*◌, ◌%◌, ◌<◌, ◌≤◌, cond, eqb, List, [], ◌∷◌, ◌++◌, length, get_or, sym, refl, ap, ◌∙◌}
+use Rattle.std.proofs.Common.{append_assoc, take, drop, drop-drop, ap₂, arith, length-append}
+use Rattle.std.proofs.lemmas.List.Edits.{sets-eq}
+use borrow.Rule.Slice.PartMut.{put_mid}
 use lib.Seq.{sets}
 use Rattle.image.specs.Bytes.{le32}
 use Rattle.image.specs.Image.{head_bytes}
@@ -80,13 +82,11 @@ pub rows_end : (counts b x : List ℕ) (o t i : ℕ) → sets b i (rows_from cou
 unfolding rows_from
 rows_end counts b x o t i p = p
 
--- ---- zeros
+-- ---- a part
 
-pub zero_step : (b x : List ℕ) (i n : ℕ) → i < n → sets b i (replicate (n - i) 0) ≡ x → sets (set b i 0) (i + 1) (replicate (n - (i + 1)) 0) ≡ x
-zero_step b x i n h p =
-    let m : n - i ≡ suc (n - (i + 1)) = omega arith in
-    let st : i + 1 ≡ suc i = omega arith in
-    ap (λ (k : ℕ). sets (set b i 0) k (replicate (n - (i + 1)) 0)) st ∙ sym (ap (λ (k : ℕ). sets b i (replicate k 0)) m) ∙ p
-
-pub zero_end : (b x : List ℕ) (i n : ℕ) → n ≤ i → sets b i (replicate (n - i) 0) ≡ x → b ≡ x
-zero_end b x i n h p = let m : n - i ≡ 0 = omega arith in sym (ap (λ (k : ℕ). sets b i (replicate k 0)) m) ∙ p
+-- a part of a buffer, where something else of its length stands now
+pub part_stored : (a k : ℕ) (xs ys zs : List ℕ) → a + k ≤ length xs → length zs ≡ k → ys ≡ zs → put_mid a k xs ys ≡ sets xs a zs
+part_stored a k xs ys zs h l e =
+    ap (λ (r : List ℕ). take a xs ++ (r ++ drop k (drop a xs))) e
+    ∙ ap (λ (r : List ℕ). take a xs ++ (zs ++ r)) (drop-drop k a xs ∙ ap (λ (n : ℕ). drop (a + n) xs) (sym l))
+    ∙ sym (rw append_assoc at (sets-eq zs xs a (omega arith)))

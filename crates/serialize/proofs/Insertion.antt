@@ -8,11 +8,11 @@ use Rattle.image.specs.declared.Mode.{Mode}
 use Rattle.image.proofs.Words.{length_le32}
 use Rattle.image.proofs.Bools.{and_first, and_second}
 use Rattle.image.proofs.Stores.{sets_then}
-use Rattle.image.proofs.Between.{entry_room}
+use Rattle.image.proofs.Between.{whole_room}
 use Rattle.image.specs.Stored.{between}
 use Rattle.image.specs.Tables.{start, probe_sequence, first_empty}
 use Rattle.image.specs.Steps.EntryLength.{whole_length}
-use Rattle.image.specs.Steps.Contracts.{BucketIs, offset_at}
+use Rattle.image.specs.Steps.Contracts.{BucketIs, WholeLength, offset_at}
 use Rattle.image.proofs.Bools.{false_not_true, or_false_first, or_false_second}
 use Rattle.serialize.specs.Steps.Insertion.{holds_table, inserted, inserted_by_row, EntryPre, entry_hash}
 use Rattle.serialize.specs.Steps.Insertion.{back_stored, entry_inserted, InsertEntriesPre, inserted_from}
@@ -109,10 +109,10 @@ entry_inserted_lem mode back_start buf end at n ei eh p q =
 -- a whole entry lies before the end
 pub entry_in : {back_start end : ℕ} {buf₀ : List ℕ} → InsertEntriesPre back_start end buf₀ → (buf : List ℕ) → length buf ≡ length buf₀
     → (at n : ℕ) → at ≤ end
-    → n ≡ whole_length (between buf at end) → n < 4294967296 → (n ≡ 0 → ⊥) → (at + (8 + n) ≤ end) × EntryPre at n buf
-entry_in {back_start} {end} pre buf long at n before is small some =
-    let r = entry_room buf at end n before (omega (arith, pre.inside)) is some in
-    (r.before, record { inside = r.name.inside; some = r.name.some; length_word = small; offset_word = omega (arith, pre.end_word) })
+    → WholeLength buf at end n → (at + (8 + n) ≤ end) × EntryPre at n buf
+entry_in pre buf long at n before w =
+    let r = whole_room (record { from = before; inside = omega (arith, pre.inside) }) w in
+    (r.before, record { inside = r.name.inside; some = r.name.some; length_word = w.small; offset_word = omega (arith, pre.end_word) })
 
 -- the entries from `at` on, inserted into this buffer, leave what all entries leave, and meet none if all meet none
 pub record Inserting (mode : Mode) (back_start end entries : ℕ) (buf₀ buf : List ℕ) (at left : ℕ) (met : Bool) : Type 0 where

@@ -8,10 +8,8 @@ fn or_all(counts: &[u32; 256]) -> u32
     ensures { (t : ℕ) → t < 256 → slice_index counts.now t ≤ result }
 {
     let mut all = 0;
-    let mut t = 0;
-    while t < 256 {
-        all = all | counts[t];
-        t += 1;
+    for count in counts {
+        all |= *count;
     }
     all
 }
@@ -21,10 +19,8 @@ fn each_at_most(counts: &[u32; 256], entries: u32) -> bool
     ensures { result ≡ none_above counts.now entries }
 {
     let mut none = true;
-    let mut t = 0;
-    while t < 256 {
-        none = none & (counts[t] <= entries);
-        t += 1;
+    for count in counts {
+        none &= *count <= entries;
     }
     none
 }

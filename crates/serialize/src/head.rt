@@ -2,7 +2,7 @@
 ghost use Rattle.std.specs.Prelude.{◌≡◌, ◌-◌, ◌%◌, ◌≤◌, length, replicate, if◌then◌else◌, nat_eq};
 ghost use Rattle.std.proofs.lemmas.List.Edits.{sets};
 ghost use Rattle.image.specs.Image.{head_bytes};
-ghost use Rattle.serialize.specs.Steps.Contracts.{AsU64, ClearBytesPre};
+ghost use Rattle.serialize.specs.Steps.Contracts.{ClearBytesPre};
 ghost use Rattle.serialize.specs.Steps.Written.{RowsWritten};
 
 use image::BYTEORDER_CHECK;
@@ -34,13 +34,6 @@ pub(super) fn low(x: u64) -> u32
     (x % 4294967296) as u32
 }
 
-// A word in 64 bits.
-pub(super) fn as_u64(x: u32) -> u64
-    ensures { AsU64 x result }
-{
-    x as u64
-}
-
 // A table's offset: 0 without entries, otherwise where the tables written so far end.
 fn offset_or_zero(count: u64, o: u64) -> u64
     ensures { result ≡ (if nat_eq count 0 then 0 else o) }
@@ -56,9 +49,8 @@ pub(super) fn write_rows(buf: &mut [u8], counts: &[u32; 256], end: u32, places: 
         places.new }
 {
     let mut o = end as u64;
-    let mut t = 0;
-    while t < 256 {
-        let count = as_u64(counts[t]);
+    for (t, count) in counts.iter().enumerate() {
+        let count = *count as u64;
         store_word(
             &mut *buf,
             TABLE_OFFSETS_AT + ROW_SIZE * t,
@@ -67,7 +59,6 @@ pub(super) fn write_rows(buf: &mut [u8], counts: &[u32; 256], end: u32, places: 
         store_word(&mut *buf, BUCKET_NUMBERS_AT + ROW_SIZE * t, low(2 * count));
         places[t] = low(o);
         o += 16 * count;
-        t += 1;
     }
 }
 
@@ -76,9 +67,5 @@ pub fn clear_bytes(buf: &mut [u8], from: usize, to: usize)
     requires { ClearBytesPre buf.old from to }
     ensures { buf.new ≡ sets buf.old from (replicate (to - from) 0) }
 {
-    let mut i = from;
-    while i < to {
-        buf[i] = 0;
-        i += 1;
-    }
+    buf[from..to].fill(0);
 }

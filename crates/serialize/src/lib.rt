@@ -36,7 +36,7 @@ fn write_front(
     head::write_head(
         &mut *buf,
         size as u32,
-        image::flag_word(mode),
+        u32::from(mode),
         back_size as u32,
         back_offset as u32,
     );
@@ -91,7 +91,6 @@ pub fn write_image(
         return tables::insert_singly(mode, back_offset, &mut *buf, last, entries, size, false);
     }
     partition::partition_entries(mode, back_offset, &mut *buf, &mut places, last, entries);
-    let mut none: [u32; 1] = [0; 1];
     fill_all(
         mode,
         back_offset,
@@ -100,7 +99,7 @@ pub fn write_image(
         last,
         entries,
         size,
-        &mut none,
+        &mut [],
         false,
     )
 }

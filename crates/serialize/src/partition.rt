@@ -22,7 +22,7 @@ fn append_pair(buf: &mut [u8], places: &mut [u32; 256], h: u32, at: u32)
     let t = (h % 256) as usize;
     let p = places[t];
     put_pair(&mut *buf, p, h, at);
-    places[t] = std::num::wrapping_add_u32(p, 8);
+    places[t] = p.wrapping_add(8);
 }
 
 // An entry of this id and hash at `at`: its pair appended, and its offset stored in the back array. An internal
@@ -58,16 +58,13 @@ pub(super) fn partition_entries(
         ≡ partitioned_from mode back_offset end entries 2072 places.old buf.old }
 {
     let mut at = HEAD_SIZE;
-    let mut left = entries;
-    while left > 0 {
-        let n = image::entries::whole_length(&*buf, at, end);
-        if n == 0 {
+    for _ in 0..entries {
+        let Some(n) = image::entries::whole_length(&*buf, at, end) else {
             return;
-        }
+        };
         let id = image::word_or_zero(&*buf, at);
         let h = entry_hash(&*buf, at, n);
         partition_entry(mode, back_offset, &mut *buf, &mut *places, at as u32, id, h);
         at += 8 + n;
-        left -= 1;
     }
 }

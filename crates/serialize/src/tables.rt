@@ -8,7 +8,7 @@ ghost use Rattle.serialize.specs.Steps.Written.{by_tables, FillAllPre};
 ghost use Rattle.serialize.specs.Steps.Meeting.{PairsInserted, TableDone, TablesDone, SinglyDone, AllDone};
 
 use super::counts::none_above;
-use super::head::{as_u64, clear_bytes};
+use super::head::clear_bytes;
 use super::insert::{insert_entries, insert_pair};
 use image::Mode;
 use jhash::word::word;
@@ -39,11 +39,9 @@ fn copy_pairs(copy: &mut [u32], buf: &[u8], o: usize, c: usize)
     requires { CopyPairsPre copy.old buf.now o c }
     ensures { PairsCopied copy.new buf.now o c }
 {
-    let mut i = 0;
-    while i < c {
+    for i in 0..c {
         copy[2 * i] = word(buf, o + 8 * i);
         copy[2 * i + 1] = word(buf, o + 8 * i + 4);
-        i += 1;
     }
 }
 
@@ -55,14 +53,12 @@ fn insert_pairs(buf: &mut [u8], end: usize, o: usize, c: usize, pairs: &[u32], s
 {
     clear_bytes(&mut *buf, o, o + 16 * c);
     let mut met = false;
-    let mut i = 0;
-    while i < c {
+    for i in 0..c {
         let one = insert_pair(&mut *buf, end, o, 2 * c, pairs[2 * i], pairs[2 * i + 1]);
         if stop & one {
             return true;
         }
-        met = met | one;
-        i += 1;
+        met |= one;
     }
     met
 }
@@ -97,16 +93,14 @@ fn fill_tables(
 {
     let mut met = false;
     let mut o = end;
-    let mut t = 0;
-    while t < 256 {
-        let c = as_u64(counts[t]) as usize;
+    for count in counts {
+        let c = *count as usize;
         let one = fill_table(&mut *buf, end, o, c, &mut *copy, stop);
         if stop & one {
             return true;
         }
-        met = met | one;
+        met |= one;
         o += 16 * c;
-        t += 1;
     }
     met
 }
@@ -115,10 +109,7 @@ fn fill_tables(
 fn has_room(counts: &[u32; 256], scratch: &[u32]) -> bool
     ensures { result ≡ true → EachCopied counts.now scratch.now }
 {
-    let pairs = scratch.len() / 2;
-    if 4294967295 < pairs {
-        return none_above(counts, 4294967295);
-    }
+    let pairs = (scratch.len() / 2).min(4294967295);
     none_above(counts, pairs as u32)
 }
 
@@ -169,6 +160,8 @@ pub fn fill_all(
     requires { FillAllPre back_offset end size buf.old }
     ensures { AllDone stop mode back_offset end entries size counts.now buf.old buf.new result }
 {
+    // The two copies on the stack differ in size alone. One function over the size would be no plainer: it would repeat
+    // the parameters and the contract of fill_tables to save one line here.
     if none_above(counts, FEW_PAIRS_32) {
         let mut copy: [u32; FEW_WORDS] = [0; FEW_WORDS];
         return fill_tables(&mut *buf, counts, end, &mut copy, stop);

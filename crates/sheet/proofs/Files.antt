@@ -18,7 +18,7 @@ use Rattle.sheet.specs.declared.Sheet.{Sheet}
 use Rattle.sheet.proofs.Sheets.{Lie, Three, three_or_short, sheet_reads, lists_read, sheet_ends, front_again}
 
 module _ (file : List ℕ) where
-  pub reading_short : sections file ≡ refusal 19 → read_sheet file ≡ refusal 19
+  pub reading_short : {n : ℕ} → sections file ≡ refusal n → read_sheet file ≡ refusal n
   unfolding read_sheet
   reading_short e = ap (λ (r : Outcome Sheet). and_then r (nothing_left file)) e
 

@@ -1,6 +1,7 @@
 -- The part that is returned, by its start and end. Assumes nothing.
-use Prim.Native.Nat.{ℕ, ◌+◌, ◌*◌, ◌-◌, ◌≤◌, ◌<◌}
+use Prim.Native.Nat.{ℕ, ◌+◌, ◌*◌, ◌-◌, ◌≤◌, ◌<◌, min}
 use native.Mathlib.Omega.{arith}
+use native.Mathlib.Decide.{dec_lt}
 use mathlib.Core.Path.{◌≡◌, sym, ap, ◌∙◌}
 use mathlib.Core.Bool.{Bool, cond}
 use mathlib.Core.List.{List}
@@ -32,12 +33,7 @@ module _ (file : Slice) (p : SectionPlace) where
   pub part_inside : p.start ≤ size → part_at file p ≡ cut_part file p
   part_inside h = ap by (sym (le-ltb size p.start h))
 
-  pub part_whole : p.start ≤ size → subslice file p.start (p.start + 4 * p.count - p.start) ≡ cut_part file p
-  part_whole h =
-      let e : p.start + 4 * p.count - p.start ≡ 4 * p.count = omega arith in
-      ap (subslice file p.start) e ∙ part_inside h
-
-  pub part_cut : p.start ≤ size → size - p.start < 4 * p.count → subslice file p.start (size - p.start) ≡ cut_part file p
+  part_cut : p.start ≤ size → size - p.start < 4 * p.count → subslice file p.start (size - p.start) ≡ cut_part file p
   part_cut h k =
       ap (λ (l : List ℕ). record { at = (part_at file p).at; bytes = l }) same ∙ part_inside h
     where
@@ -48,6 +44,14 @@ module _ (file : Slice) (p : SectionPlace) where
       same =
           let e : length left ≡ size - p.start = length-drop p.start file.bytes in
           take_all (size - p.start) left (omega arith) ∙ sym (take_all (4 * p.count) left (omega arith))
+
+  -- as many bytes as the place has, or as are left
+  pub part_clipped : (n : ℕ) → n ≡ min (4 * p.count) (size - p.start) → p.start ≤ size → subslice file p.start (p.start + n - p.start) ≡ cut_part file p
+  part_clipped n e h =
+      elim (dec_lt (size - p.start) (4 * p.count)) [
+        | yes k ↦ (let f : p.start + n - p.start ≡ size - p.start = omega arith in ap (subslice file p.start) f ∙ part_cut h k)
+        | no k ↦ (let f : p.start + n - p.start ≡ 4 * p.count = omega arith in ap (subslice file p.start) f ∙ part_inside h)
+      ]
 
 -- ---- of a section
 

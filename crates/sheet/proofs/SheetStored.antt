@@ -1,12 +1,13 @@
 -- Writing: what is given by the four tests, the buffer afterwards, and runs of stores. Assumes nothing.
-use Prim.Native.Nat.{ℕ, suc, ◌+◌, ◌*◌, ◌/◌, ◌%◌, ◌≤◌, ◌<◌}
+use Prim.Native.Nat.{ℕ, suc, ◌+◌, ◌*◌, ◌/◌, ◌%◌, ◌≤◌, ◌<◌, max}
 use native.Mathlib.Omega.{arith}
+use native.Mathlib.Decide.{dec_lt}
 use native.Mathlib.Nat.{zero-add}
 use native.Mathlib.Numerals.{towards_suc}
 use mathlib.Core.Path.{◌≡◌, refl, sym, ap, ◌∙◌}
 use mathlib.Core.Bool.{Bool, false, cond, ◌||◌}
 use mathlib.Core.List.{List, ◌∷◌, ◌++◌}
-use borrow.Author.Tests.{le-ltb}
+use borrow.Author.Tests.{lt-ltb, le-ltb}
 use lib.Dec.{ltb}
 use lib.ListN.{length, get_or, set, take, drop, drop_of_length-le, length-append}
 use lib.Seq.{sets, sets-eq, drop-cons, take-append_seam}
@@ -24,21 +25,42 @@ use Rattle.sheet.proofs.Sections.{length_section}
 
 -- ---- the answer
 
+-- one of two passes a bound where the larger does
+or_max : (k a b : ℕ) → (ltb k a || ltb k b) ≡ ltb k (max a b)
+or_max k a b =
+    elim (dec_lt k a) [
+      | yes h ↦ ap (λ (t : Bool). t || ltb k b) (lt-ltb k a h) ∙ sym (lt-ltb k (max a b) (omega arith))
+      | no h ↦ ap (λ (t : Bool). t || ltb k b) (le-ltb k a (omega arith)) ∙ second h
+    ]
+  where
+    second : ¬ (k < a) → ltb k b ≡ ltb k (max a b)
+    second h =
+        elim (dec_lt k b) [
+          | yes l ↦ lt-ltb k b l ∙ sym (lt-ltb k (max a b) (omega arith))
+          | no l ↦ le-ltb k b (omega arith) ∙ sym (le-ltb k (max a b) (omega arith))
+        ]
+
+-- how many ids the longest list has
+abbrev pub most : Lists → ℕ
+most l = max (max (length l.references) (length l.walls)) (length l.retired)
+
+too_long_lem : (l : Lists) → too_long l ≡ ltb 65535 (most l)
+too_long_lem l =
+    ap (λ (t : Bool). t || passes l.retired) (or_max 65535 (length l.references) (length l.walls))
+    ∙ or_max 65535 (max (length l.references) (length l.walls)) (length l.retired)
+
 module _ (room : ℕ) (l : Lists) where
-  pub writing_by : (a b c d : Bool) → passes l.references ≡ a → passes l.walls ≡ b → passes l.retired ≡ c
-      → ltb room (length (sheet_bytes l)) ≡ d
-      → cond (a || b || c || d) (refusal 21) (value (length (sheet_bytes l))) ≡ writing room l
+  -- by two tests: the longest list's, and the buffer's
+  pub writing_by : (a b : Bool) → ltb 65535 (most l) ≡ a → ltb room (length (sheet_bytes l)) ≡ b
+      → cond (a || b) (refusal 21) (value (length (sheet_bytes l))) ≡ writing room l
   unfolding writing
-  writing_by a b c d ea eb ec ed = sym (λ i. cond (ea i || eb i || ec i || ed i) (refusal 21) (value (length (sheet_bytes l))))
+  writing_by a b ea eb = sym (λ i. cond ((too_long_lem l ∙ ea) i || eb i) (refusal 21) (value (length (sheet_bytes l))))
 
   pub accepted : Fits l → length (sheet_bytes l) ≤ room → writing room l ≡ value (length (sheet_bytes l))
   accepted fits h =
       sym
-      (writing_by false false false false (short l.references fits.references.count) (short l.walls fits.walls.count)
-      (short l.retired fits.retired.count) (le-ltb room (length (sheet_bytes l)) h))
-    where
-      short : (xs : List ℕ) → length xs ≤ 65535 → passes xs ≡ false
-      short xs k = le-ltb 65535 (length xs) k
+      (writing_by false false
+      (le-ltb 65535 (most l) (omega (arith, fits.references.count, fits.walls.count, fits.retired.count))) (le-ltb room (length (sheet_bytes l)) h))
 
   -- a length that was given is that of the file
   pub given_length : (n : ℕ) → writing room l ≡ value n → n ≡ length (sheet_bytes l)

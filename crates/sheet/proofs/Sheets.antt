@@ -40,20 +40,20 @@ module _ (file : List ℕ) where
     unfolding sections
     behind_first = ap (λ (r : Outcome SectionPlace). and_then r from_references) ea
 
-    pub short_walls : section_at file (part_end a) ≡ refusal 19 → sections file ≡ refusal 19
+    pub short_walls : {n : ℕ} → section_at file (part_end a) ≡ refusal n → sections file ≡ refusal n
     short_walls e = behind_first ∙ ap (λ (r : Outcome SectionPlace). and_then r (from_walls a)) e
 
     module _ (b : SectionPlace) (eb : section_at file (part_end a) ≡ value b) where
       behind_second : sections file ≡ from_walls a b
       behind_second = behind_first ∙ ap (λ (r : Outcome SectionPlace). and_then r (from_walls a)) eb
 
-      pub short_retired : section_at file (part_end b) ≡ refusal 19 → sections file ≡ refusal 19
+      pub short_retired : {n : ℕ} → section_at file (part_end b) ≡ refusal n → sections file ≡ refusal n
       short_retired e = behind_second ∙ ap (λ (r : Outcome SectionPlace). and_then r (λ c. value (sheet a b c))) e
 
       pub all_three : (c : SectionPlace) → section_at file (part_end b) ≡ value c → sections file ≡ value (sheet a b c)
       all_three c ec = behind_second ∙ ap (λ (r : Outcome SectionPlace). and_then r (λ c. value (sheet a b c))) ec
 
-  pub short_references : section_at file 0 ≡ refusal 19 → sections file ≡ refusal 19
+  pub short_references : {n : ℕ} → section_at file 0 ≡ refusal n → sections file ≡ refusal n
   unfolding sections
   short_references e = ap (λ (r : Outcome SectionPlace). and_then r from_references) e
 

@@ -2,7 +2,6 @@
 pub mod Format
 pub mod SheetReading
 pub mod SheetWriting
-pub mod Cases
 pub mod Steps
 pub mod Theorems
 pub mod Examples

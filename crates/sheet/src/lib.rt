@@ -30,25 +30,3 @@ pub enum Which {
     Walls,
     Retired,
 }
-
-// What reading one section answers: its part, or too few bytes.
-#[derive(Clone, Copy)]
-enum SectionAnswer {
-    At(SectionPlace),
-    Short,
-}
-
-// What reading answers: the parts, or too few bytes (19), or left-over ones (20).
-#[derive(Clone, Copy)]
-pub enum ReadAnswer {
-    Whole(Sheet),
-    TooFew,
-    LeftOver,
-}
-
-// What writing answers: the length, or that a list has over 65,535 ids or the buffer is too short (21).
-#[derive(Clone, Copy)]
-pub enum Written {
-    Length(usize),
-    TooLarge,
-}

@@ -3,10 +3,11 @@ ghost use Rattle.std.specs.Prelude.{◌≡◌, ◌+◌, ◌<◌, ◌≤◌, leng
 ghost use Rattle.reader.specs.Slices.{slice};
 ghost use Rattle.sheet.specs.SheetReading.{part_end, ids_in, section_at, read_sheet};
 ghost use Rattle.sheet.specs.SheetReading.{section_of, section_part, cut_part};
-ghost use Rattle.sheet.specs.Cases.{section_answer_of, read_of};
+ghost use Rattle.jhash.specs.Outcome.{outcome_of};
 ghost use Rattle.sheet.specs.Steps.Contracts.{CountRead};
 
-use super::{ReadAnswer, SectionAnswer, SectionPlace, Sheet, Which};
+use super::{SectionPlace, Sheet, Which};
+use jhash::refusals::Refusal;
 use jhash::word::byte_as_word;
 
 // The 16-bit count at `at`.
@@ -19,20 +20,20 @@ fn count_at(file: &[u8], at: usize) -> u32
     low + high * 256
 }
 
-// The section whose count stands at `at`.
-fn section_at(file: &[u8], at: usize) -> SectionAnswer
+// The section whose count stands at `at`, or the refusal where the file ends before the section does.
+fn section_at(file: &[u8], at: usize) -> Result<SectionPlace, Refusal>
     requires { at ≤ length file.now }
-    ensures { section_answer_of result ≡ section_at file.now at }
+    ensures { outcome_of result ≡ section_at file.now at }
 {
     let left = file.len() - at;
     if left < 2 {
-        return SectionAnswer::Short;
+        return Err(Refusal::TooFewBytes);
     }
     let count = count_at(file, at);
     if left - 2 < 4 * (count as usize) {
-        return SectionAnswer::Short;
+        return Err(Refusal::TooFewBytes);
     }
-    SectionAnswer::At(SectionPlace {
+    Ok(SectionPlace {
         start: at + 2,
         count,
     })
@@ -47,22 +48,16 @@ fn end_of(p: SectionPlace) -> usize
 }
 
 // The parts of the three sections, or the refusal.
-pub fn read(file: &[u8]) -> ReadAnswer
-    ensures { read_of result ≡ read_sheet file.now }
+pub fn read(file: &[u8]) -> Result<Sheet, Refusal>
+    ensures { outcome_of result ≡ read_sheet file.now }
 {
-    let SectionAnswer::At(references) = section_at(file, 0) else {
-        return ReadAnswer::TooFew;
-    };
-    let SectionAnswer::At(walls) = section_at(file, end_of(references)) else {
-        return ReadAnswer::TooFew;
-    };
-    let SectionAnswer::At(retired) = section_at(file, end_of(walls)) else {
-        return ReadAnswer::TooFew;
-    };
+    let references = section_at(file, 0)?;
+    let walls = section_at(file, end_of(references))?;
+    let retired = section_at(file, end_of(walls))?;
     if end_of(retired) < file.len() {
-        return ReadAnswer::LeftOver;
+        return Err(Refusal::LeftOverBytes);
     }
-    ReadAnswer::Whole(Sheet {
+    Ok(Sheet {
         references,
         walls,
         retired,
@@ -75,13 +70,10 @@ pub fn part<'a>(file: &'a [u8], p: SectionPlace) -> &'a [u8]
 {
     let all = file.len();
     let start = p.start;
-    let size = 4 * (p.count as usize);
     if all < start {
         return &file[0..0];
     }
-    if all - start < size {
-        return &file[start..all];
-    }
+    let size = (4 * (p.count as usize)).min(all - start);
     &file[start..start + size]
 }
 
@@ -90,18 +82,9 @@ fn place_of(s: Sheet, which: Which) -> SectionPlace
     ensures { result ≡ section_of s which }
 {
     match which {
-        Which::References => {
-            let p = s.references;
-            p
-        }
-        Which::Walls => {
-            let p = s.walls;
-            p
-        }
-        Which::Retired => {
-            let p = s.retired;
-            p
-        }
+        Which::References => s.references,
+        Which::Walls => s.walls,
+        Which::Retired => s.retired,
     }
 }
 
@@ -110,9 +93,8 @@ pub fn section<'a>(file: &'a [u8], which: Which) -> &'a [u8]
     ensures { slice result ≡ section_part (slice file.entry) which }
 {
     match read(file) {
-        ReadAnswer::Whole(s) => part(file, place_of(s, which)),
-        ReadAnswer::TooFew => &file[0..0],
-        ReadAnswer::LeftOver => &file[0..0],
+        Ok(s) => part(file, place_of(s, which)),
+        Err(_) => &file[0..0],
     }
 }
 

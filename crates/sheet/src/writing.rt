@@ -3,20 +3,18 @@ ghost use Rattle.std.specs.Prelude.{◌≡◌, ◌+◌, ◌*◌, ◌≤◌, leng
 ghost use Rattle.std.proofs.lemmas.List.Edits.{sets};
 ghost use Rattle.sheet.specs.Format.{id_bytes};
 ghost use Rattle.sheet.specs.SheetWriting.{section_lists, writing, after_writing};
-ghost use Rattle.sheet.specs.Cases.{written_of};
+ghost use Rattle.jhash.specs.Outcome.{outcome_of};
 ghost use Rattle.sheet.specs.Steps.Contracts.{PutSectionPre, SectionStored};
 
-use super::Written;
+use jhash::refusals::Refusal;
 
 // The bytes of ids stored from `at` on.
 fn put_ids(buf: &mut [u8], at: usize, ids: &[u32])
     requires { at + 4 * length ids.now ≤ length buf.old }
     ensures { buf.new ≡ sets buf.old at (id_bytes ids.now) }
 {
-    let mut i = 0;
-    while i < ids.len() {
-        image::store_word_clipped(&mut *buf, at + 4 * i, ids[i]);
-        i += 1;
+    for (i, id) in ids.iter().enumerate() {
+        image::store_word_clipped(&mut *buf, at + 4 * i, *id);
     }
 }
 
@@ -35,8 +33,13 @@ fn put_section(buf: &mut [u8], at: usize, ids: &[u32]) -> usize
 }
 
 // Writes the three sections from the buffer's front, and gives the length.
-pub fn write(buf: &mut [u8], references: &[u32], walls: &[u32], retired: &[u32]) -> Written
-    ensures answer { written_of result ≡ writing (length buf.old)
+pub fn write(
+    buf: &mut [u8],
+    references: &[u32],
+    walls: &[u32],
+    retired: &[u32],
+) -> Result<usize, Refusal>
+    ensures answer { outcome_of result ≡ writing (length buf.old)
         (section_lists references.now walls.now retired.now) }
     ensures leaves { buf.new
         ≡ after_writing buf.old
@@ -45,21 +48,15 @@ pub fn write(buf: &mut [u8], references: &[u32], walls: &[u32], retired: &[u32])
     let n = references.len();
     let m = walls.len();
     let k = retired.len();
-    if 65535 < n {
-        return Written::TooLarge;
-    }
-    if 65535 < m {
-        return Written::TooLarge;
-    }
-    if 65535 < k {
-        return Written::TooLarge;
+    if 65535 < n.max(m).max(k) {
+        return Err(Refusal::SheetTooLarge);
     }
     let size = 6 + 4 * (n + m + k);
     if buf.len() < size {
-        return Written::TooLarge;
+        return Err(Refusal::SheetTooLarge);
     }
     let walls_at = put_section(&mut *buf, 0, references);
     let retired_at = put_section(&mut *buf, walls_at, walls);
     put_section(&mut *buf, retired_at, retired);
-    Written::Length(size)
+    Ok(size)
 }

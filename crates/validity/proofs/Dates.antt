@@ -5,9 +5,9 @@ use Prim.Native.Nat.{ℕ, ◌≤◌, ◌<◌}
 use native.Mathlib.Omega.{arith}
 use native.Mathlib.Decide.{ℕ_discrete, dec_lt}
 use mathlib.Core.Bool.{true, false}
-use lib.Dec.{eqb, ltb, leb}
+use lib.Dec.{ltb, leb}
 use borrow.Author.Tests.{ltb-true, lt-ltb, le-ltb, le-leb, eq-eqb, ne_eqb}
-use Rattle.validity.specs.Calendar.{month_length, is_date, is_end, earlier}
+use Rattle.validity.specs.Calendar.{month_length, is_date, earlier}
 use Rattle.validity.specs.declared.Date.{Date}
 
 module _ (d : Date) where
@@ -15,11 +15,6 @@ module _ (d : Date) where
   pub by_last_day : 1900 ≤ d.year → d.year ≤ 2199 → 1 ≤ d.day → leb d.day (month_length d.year d.month) ≡ is_date d
   unfolding is_date
   by_last_day low high day = simp (le-leb 1900 d.year low, le-leb d.year 2199 high, le-leb 1 d.day day)
-
-  -- in January 2200 the day decides
-  pub by_new_year : is_date d ≡ false → d.year ≡ 2200 → d.month ≡ 1 → eqb d.day 1 ≡ is_end d
-  unfolding is_end
-  by_new_year none year month = simp (none, eq-eqb d.year 2200 year, eq-eqb d.month 1 month)
 
 module _ (a b : Date) where
   pub by_year : ¬ (a.year ≡ b.year) → earlier a b ≡ ltb a.year b.year

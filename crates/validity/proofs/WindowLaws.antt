@@ -1,10 +1,9 @@
 -- The rule over lists of windows, and the fold that computes it. Assumes nothing.
 use mathlib.Core.Path.{◌≡◌, refl, sym, ap, ◌∙◌}
-use Prim.Native.Nat.{ℕ, suc, ◌<◌, ◌≤◌}
+use Prim.Native.Nat.{ℕ}
 use mathlib.Core.Bool.{Bool, true, false, cond, not, ◌||◌, or_assoc, or-false}
 use mathlib.Core.List.{List, [], ◌∷◌}
-use lib.ListN.{length, get_or, drop, drop_of_length-le}
-use lib.Seq.{drop-cons}
+use Rattle.std.specs.Prelude.{fold}
 use Rattle.jhash.specs.Outcome.{Outcome, value, refusal}
 use Rattle.reader.specs.Slices.{Slice, subslice}
 use Rattle.reader.specs.Naming.{Naming, unnamed, naming, slice_or}
@@ -59,15 +58,14 @@ module _ (id : ℕ) (date : Date) where
   unfolding window_state
   folded_is_state ws = folded_form false false false ws
 
-  -- ---- the windows from the place i on; d stands behind the last
-  module _ (s : WindowState) (ws : List Window) (d : Window) (i : ℕ) where
-    pub folded_end : length ws ≤ i → folded id date s (drop i ws) ≡ s
-    unfolding folded
-    folded_end h = ap (folded id date s) (drop_of_length-le ws h)
+  -- the fold that the code runs
+  folding : (s : WindowState) (ws : List Window) → fold (stepped id date) s ws ≡ folded id date s ws
+  unfolding folded
+  folding s [] = refl
+  folding s (w ∷ ws) = folding (stepped id date s w) ws
 
-    pub folded_on : i < length ws → folded id date s (drop i ws) ≡ folded id date (stepped id date s (get_or ws i d)) (drop (suc i) ws)
-    unfolding folded
-    folded_on h = ap (folded id date s) (drop-cons ws i d h)
+  pub folds : (ws : List Window) → fold (stepped id date) Inactive ws ≡ window_state id date ws
+  folds ws = folding Inactive ws ∙ folded_is_state ws
 
 -- ---- the answer by the state is the rule's answer
 module _ (image : List ℕ) (id : ℕ) (date : Date) (ws : List Window) where

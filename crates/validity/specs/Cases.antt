@@ -1,11 +1,13 @@
--- The answer's cases: for each case of the enum that the call answers, 02's number and values.
+-- The answer's cases: for each case that the call answers, 02's number and values.
+use Rattle.std.specs.Prelude.{Option, Result, Ok, Err}
 use Rattle.jhash.specs.Outcome.{Outcome, value, refusal}
-use Rattle.reader.specs.Naming.{Naming, place, unnamed}
-use Rattle.validity.specs.declared.NamedOn.{NamedOn}
-use Rattle.validity.specs.declared.NamedOn.TheVariants as on
+use Rattle.jhash.specs.Refusals.{number_of}
+use Rattle.jhash.specs.declared.refusals.Refusal.{Refusal}
+use Rattle.reader.specs.Cases.{naming_of}
+use Rattle.reader.specs.Naming.{Naming}
+use Rattle.reader.specs.declared.Place.{Place}
 
--- the number and the values of each case of the answer
-abbrev pub named_on_of : NamedOn → Outcome Naming
-named_on_of (on.Place start len) = value (place start len)
-named_on_of on.Nothing = value unnamed
-named_on_of (on.Refused k) = refusal k
+-- the place of the name or nothing, or the number of the refusal
+abbrev pub named_on_of : Result (Option Place) Refusal → Outcome Naming
+named_on_of (Ok place) = value (naming_of place)
+named_on_of (Err r) = refusal (number_of r)

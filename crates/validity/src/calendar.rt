@@ -8,13 +8,7 @@ use super::Date;
 fn leap(year: u16) -> bool
     ensures { result ≡ leap year }
 {
-    if year % 4 != 0 {
-        return false;
-    }
-    if year % 100 != 0 {
-        return true;
-    }
-    year % 400 == 0
+    year % 4 == 0 && (year % 100 != 0 || year % 400 == 0)
 }
 
 // How many days a month has; 0 where the number is no month's.
@@ -33,43 +27,27 @@ fn month_length(year: u16, month: u8) -> u8
 pub fn is_date(d: Date) -> bool
     ensures { result ≡ is_date d }
 {
-    if d.year < 1900 {
+    if d.year < 1900 || 2199 < d.year {
         return false;
     }
-    if 2199 < d.year {
-        return false;
-    }
-    if d.day < 1 {
-        return false;
-    }
-    d.day <= month_length(d.year, d.month)
+    1 <= d.day && d.day <= month_length(d.year, d.month)
 }
 
 // Can it be an end date: does it exist so, or is it 1 January 2200?
 pub fn is_end(d: Date) -> bool
     ensures { result ≡ is_end d }
 {
-    if is_date(d) {
-        return true;
-    }
-    if d.year != 2200 {
-        return false;
-    }
-    if d.month != 1 {
-        return false;
-    }
-    d.day == 1
+    is_date(d)
+        || d == Date {
+            year: 2200,
+            month: 1,
+            day: 1,
+        }
 }
 
 // Does the date a come before b: by year, then month, then day?
 pub fn earlier(a: Date, b: Date) -> bool
     ensures { result ≡ earlier a b }
 {
-    if a.year != b.year {
-        return a.year < b.year;
-    }
-    if a.month != b.month {
-        return a.month < b.month;
-    }
-    a.day < b.day
+    a < b
 }

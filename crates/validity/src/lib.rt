@@ -8,16 +8,16 @@ ghost use Rattle.validity.specs.Cases.{named_on_of};
 ghost use Rattle.validity.specs.Windows.{place_by_state, part_by_state};
 
 use calendar::is_date;
-use jhash::refusals::{NO_SUCH_DATE, NOT_BEFORE_END};
-use reader::Named;
+use jhash::refusals::Refusal;
+use reader::Place;
 use windows::window_state;
 
 pub mod calendar; // calendar.rt: months, dates, and their order
 pub mod windows; // windows.rt: window_state, what the windows say of an id on a date
 
-// Year, month and day, whether such a day exists or not.
+// Year, month and day, whether such a day exists or not. Dates are ordered by year, then month, then day.
 #[repr(C)]
-#[derive(Clone, Copy)]
+#[derive(Clone, Copy, PartialEq, Eq, PartialOrd, Ord)]
 pub struct Date {
     pub year: u16,
     pub month: u8,
@@ -35,7 +35,7 @@ pub struct Window {
 
 // What windows say of an id on a date, each case stronger than those before it: no window of the id holds the date;
 // one does; a window does not start before its end; a window has a date that does not exist or is out of bounds.
-#[derive(Clone, Copy)]
+#[derive(Clone, Copy, PartialEq, Eq, PartialOrd, Ord)]
 pub enum WindowState {
     Inactive,
     Active,
@@ -43,29 +43,23 @@ pub enum WindowState {
     InvalidDate,
 }
 
-// What naming an id on a date answers: the place of the name in the image, or nothing, or the number of the refusal.
-#[derive(Clone, Copy)]
-pub enum NamedOn {
-    Place { start: usize, len: usize },
-    Nothing,
-    Refused(u32),
-}
-
 // The place of an id's name on a date, where the windows say s.
-pub fn place_by_state(image: &[u8], id: u32, date: Date, s: WindowState) -> NamedOn
+pub fn place_by_state(
+    image: &[u8],
+    id: u32,
+    date: Date,
+    s: WindowState,
+) -> Result<Option<Place>, Refusal>
     ensures { named_on_of result ≡ place_by_state image.now id date s }
 {
     if !is_date(date) {
-        return NamedOn::Refused(NO_SUCH_DATE);
+        return Err(Refusal::NoSuchDate);
     }
     match s {
-        WindowState::Inactive => NamedOn::Nothing,
-        WindowState::Active => match reader::to_str(image, id) {
-            Named::Place { start, len } => NamedOn::Place { start, len },
-            Named::Nothing => NamedOn::Nothing,
-        },
-        WindowState::Inverted => NamedOn::Refused(NOT_BEFORE_END),
-        WindowState::InvalidDate => NamedOn::Refused(NO_SUCH_DATE),
+        WindowState::Inactive => Ok(None),
+        WindowState::Active => Ok(reader::to_str(image, id)),
+        WindowState::Inverted => Err(Refusal::NotBeforeEnd),
+        WindowState::InvalidDate => Err(Refusal::NoSuchDate),
     }
 }
 
@@ -74,20 +68,20 @@ pub fn place_by_state(image: &[u8], id: u32, date: Date, s: WindowState) -> Name
 fn part_by_state<'a>(image: &'a [u8], id: u32, date: Date, s: WindowState) -> &'a [u8]
     ensures { slice result ≡ part_by_state (slice image.entry) id date s }
 {
-    if !is_date(date) {
-        return &image[0..0];
-    }
-    match s {
-        WindowState::Inactive => &image[0..0],
-        WindowState::Active => reader::name(image, id),
-        WindowState::Inverted => &image[0..0],
-        WindowState::InvalidDate => &image[0..0],
+    match place_by_state(image, id, date, s) {
+        Ok(Some(place)) => &image[place.start..place.start + place.len],
+        _ => &image[0..0],
     }
 }
 
 // The place of an id's name on a date, or nothing; or refusal 22 for a date that does not exist or is out of bounds,
 // the one asked about or a window's, and after that 23 for a window that does not start before its end.
-pub fn to_str_on(image: &[u8], id: u32, date: Date, windows: &[Window]) -> NamedOn
+pub fn to_str_on(
+    image: &[u8],
+    id: u32,
+    date: Date,
+    windows: &[Window],
+) -> Result<Option<Place>, Refusal>
     ensures { named_on_of result ≡ naming_on image.now id date windows.now }
 {
     place_by_state(image, id, date, window_state(windows, id, date))

@@ -3,16 +3,18 @@
 #![tactic(auto)]
 
 ghost use Rattle.std.specs.Prelude.{◌≡◌};
+ghost use Rattle.jhash.specs.Outcome.{outcome_of};
 ghost use Rattle.reader.specs.Open.{opening};
 ghost use Rattle.reader.specs.Lookup.{lookup};
 ghost use Rattle.reader.specs.Slices.{slice};
 ghost use Rattle.reader.specs.Naming.{naming, name_slice};
 ghost use Rattle.reader.specs.IdWalk.{step};
 ghost use Rattle.consistency.specs.Home.{home};
-ghost use Rattle.reader.specs.Cases.{opened_of, lookup_of, naming_of, stepped_of};
+ghost use Rattle.reader.specs.Cases.{lookup_of, naming_of, stepped_of};
 ghost use Rattle.view.specs.Num.{num_of};
 
-use reader::{Iter, Named, Opened, Stepped, ToId};
+use jhash::refusals::Refusal;
+use reader::{Item, Iter, Place, ToId};
 
 #[derive(Clone, Copy)]
 pub struct CQDB<'a> {
@@ -23,10 +25,7 @@ pub struct CQDB<'a> {
 pub fn num_of(image: &[u8]) -> u32
     ensures { result ≡ num_of (opening image.now) }
 {
-    match reader::open(image) {
-        Opened::Num(n) => n,
-        Opened::Refused(_) => 0,
-    }
+    reader::open(image).unwrap_or(0)
 }
 
 impl<'a> CQDB<'a> {
@@ -38,8 +37,8 @@ impl<'a> CQDB<'a> {
     }
 
     // The number of entries, or why opening is refused.
-    pub fn open(self) -> Opened
-        ensures { opened_of result ≡ opening self.entry.image.now }
+    pub fn open(self) -> Result<u32, Refusal>
+        ensures { outcome_of result ≡ opening self.entry.image.now }
     {
         reader::open(self.image)
     }
@@ -58,8 +57,8 @@ impl<'a> CQDB<'a> {
         reader::to_id(self.image, name)
     }
 
-    // The place of an id's name, or nothing.
-    pub fn to_str(self, id: u32) -> Named
+    // The place of an id's name, if it has one.
+    pub fn to_str(self, id: u32) -> Option<Place>
         ensures { naming_of result ≡ naming self.entry.image.now id }
     {
         reader::to_str(self.image, id)
@@ -73,7 +72,7 @@ impl<'a> CQDB<'a> {
     }
 
     // The next step of a walk, which begins with `reader::id_walk::iter`.
-    pub fn next(self, walk: Iter) -> Stepped
+    pub fn next(self, walk: Iter) -> Option<Item>
         ensures { stepped_of result ≡ step self.entry.image.now walk.next }
     {
         reader::id_walk::next(self.image, walk)

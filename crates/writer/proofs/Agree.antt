@@ -2,22 +2,24 @@
 use Prim.Native.Nat.{ℕ, ◌+◌, ◌<◌}
 use native.Mathlib.Omega.{arith}
 use native.Mathlib.Decide.{dec_lt, ℕ_discrete}
-use mathlib.Core.Path.{◌≡◌, sym, ap, ◌∙◌}
-use mathlib.Core.Bool.{Bool, cond}
+use mathlib.Core.Path.{◌≡◌, refl, sym, ap, ◌∙◌}
+use mathlib.Core.Bool.{Bool, true, false, cond, not}
 use mathlib.Core.List.{List, [], ◌∷◌}
 use lib.ListN.{length, get_or, set, replicate, length-set, length-replicate, get_or-replicate, get_or-eq_default}
 use lib.Seq.{get_or-set_same, get_or-set_other}
+use Rattle.std.proofs.lemmas.List.{ext_get_or}
 use lib.Dec.{eqb}
-use borrow.Author.Tests.{eq-eqb, ne_eqb}
+use borrow.Author.Tests.{eq-eqb, ne_eqb, eqb-true, not-true, not-false}
+use Rattle.std.specs.Cmp.Lexicographic.{pointwise, bytes_decides}
+use Rattle.image.proofs.Bools.{false_not_true}
 use Rattle.jhash.specs.NameHash.{hash_of}
 use Rattle.image.specs.Tables.{table_of}
 use Rattle.image.specs.Image.{Entry, Placed, head_size, entry_size, placed, count}
 use Rattle.image.proofs.EntryWalk.{tallied_cons}
 use Rattle.image.proofs.Sizes.{count_nil, count_cons}
-use Rattle.image.proofs.AllOfRange.{all_ext}
+use Rattle.image.proofs.AllOfRange.{all_each, all_true}
 use Rattle.writer.specs.State.{counts_agree}
 use Rattle.image.specs.Tally.{tallied, raised_counts}
-use Rattle.writer.specs.Steps.Earlier.{same_counts}
 
 -- no entries, no counts
 pub zeros : (n t : ℕ) → get_or {A = ℕ} (replicate n 0) t 0 ≡ 0
@@ -48,6 +50,12 @@ get_or_raised counts h t l =
     plus_none : (x : ℕ) → x ≡ x + 0
     plus_none x = omega arith
 
+pub length_tallied : (es : List Entry) (counts : List ℕ) → length (tallied counts es) ≡ length counts
+unfolding tallied
+length_tallied [] counts = refl
+length_tallied (e ∷ es) counts =
+    ap length (tallied_cons counts e es) ∙ length_tallied es (raised_counts counts (hash_of e.name)) ∙ length_raised counts (hash_of e.name)
+
 pub tallied_count : (es : List Entry) (counts : List ℕ) (o t : ℕ) → t < length counts
     → get_or (tallied counts es) t 0 ≡ get_or counts t 0 + count t (placed o es)
 unfolding tallied placed
@@ -65,21 +73,45 @@ tallied_count (e ∷ es) counts o t l =
     sum x y b z w p q = omega arith
 
 -- so comparing with the tally is comparing with the entries
-pub same_agree : (counts : List ℕ) (es : List Entry) (tally : List ℕ) → tally ≡ tallied (replicate 256 0) es
-    → same_counts counts tally ≡ counts_agree counts es
-same_agree counts es tally e =
-    all_ext
-    (λ (t : ℕ). eqb (get_or counts t 0) (get_or tally t 0))
-    (λ (t : ℕ). eqb (get_or counts t 0) (count t (placed head_size es)))
-    0
-    256
-    (λ i h. ap (λ (k : ℕ). eqb (get_or counts (0 + i) 0) k) (each (0 + i) (omega arith)))
-  where
-    none : (x y : ℕ) → x ≡ 0 → x + y ≡ y
-    none x y z = omega arith
+module _ (counts : List ℕ) (es : List Entry) where
+  none : (x y : ℕ) → x ≡ 0 → x + y ≡ y
+  none x y z = omega arith
 
-    each : (t : ℕ) → t < 256 → get_or tally t 0 ≡ count t (placed head_size es)
-    each t h =
-        ap (λ (l : List ℕ). get_or l t 0) e
-        ∙ tallied_count es (replicate 256 0) head_size t (omega (arith, length-replicate {A = ℕ} 256 0))
-        ∙ none (get_or (replicate 256 0) t 0) (count t (placed head_size es)) (zeros 256 t)
+  tally_count : (t : ℕ) → t < 256 → get_or (tallied (replicate 256 0) es) t 0 ≡ count t (placed head_size es)
+  tally_count t h =
+      tallied_count es (replicate 256 0) head_size t (omega (arith, length-replicate {A = ℕ} 256 0))
+      ∙ none (get_or (replicate 256 0) t 0) (count t (placed head_size es)) (zeros 256 t)
+
+  pub same_agree : counts ≡ tallied (replicate 256 0) es → counts_agree counts es ≡ true
+  same_agree e =
+      all_true (λ (t : ℕ). eqb (get_or counts t 0) (count t (placed head_size es))) 0 256
+      (λ i h. eq-eqb (get_or counts (0 + i) 0) (count (0 + i) (placed head_size es))
+      (ap (λ (l : List ℕ). get_or l (0 + i) 0) e ∙ tally_count (0 + i) (omega arith)))
+
+  pub other_differ : (tally : List ℕ) → tally ≡ tallied (replicate 256 0) es → length counts ≡ 256 → (counts ≡ tally → ⊥)
+      → counts_agree counts es ≡ false
+  other_differ tally e table differ = by_test (counts_agree counts es) refl
+    where
+      long : length (tallied (replicate 256 0) es) ≡ 256
+      long = length_tallied es (replicate 256 0) ∙ length-replicate {A = ℕ} 256 0
+
+      at_table : counts_agree counts es ≡ true → (t : ℕ) → t < 256 → get_or counts t 0 ≡ count t (placed head_size es)
+      at_table every t h =
+          let z : 0 + t ≡ t = omega arith in
+          rw z at (eqb-true (get_or counts (0 + t) 0) (count (0 + t) (placed head_size es))
+          (all_each (λ (t : ℕ). eqb (get_or counts t 0) (count t (placed head_size es))) 0 256 t every h))
+
+      agreed : counts_agree counts es ≡ true → counts ≡ tally
+      agreed every = ext_get_or 0 counts tally (omega (arith, long, ap length e)) (λ i h.
+          at_table every i (omega arith) ∙ sym (tally_count i (omega arith)) ∙ ap (λ (l : List ℕ). get_or l i 0) (sym e))
+
+      by_test : (b : Bool) → counts_agree counts es ≡ b → b ≡ false
+      by_test false p = refl
+      by_test true p = absurd (differ (agreed p))
+
+-- what the test of two lists of counts says
+pub same_test : (xs ys : List ℕ) → not (pointwise eqb xs ys) ≡ false → xs ≡ ys
+same_test xs ys h = (bytes_decides xs ys).0 (not-false _ h)
+
+pub other_test : (xs ys : List ℕ) → not (pointwise eqb xs ys) ≡ true → xs ≡ ys → ⊥
+other_test xs ys h e = false_not_true (sym (not-true _ h) ∙ (bytes_decides xs ys).1 e)

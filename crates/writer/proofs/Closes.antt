@@ -2,7 +2,7 @@
 use Prim.Native.Nat.{ℕ}
 use native.Mathlib.Omega.{arith}
 use mathlib.Core.Path.{◌≡◌, refl, sym, ap, ◌∙◌}
-use mathlib.Core.Bool.{Bool, true, false, cond, not, ◌&&◌, and-false}
+use mathlib.Core.Bool.{Bool, true, false, cond, not, ◌&&◌, and-false, and-true}
 use mathlib.Core.List.{List}
 use borrow.Author.Tests.{ne_eqb}
 use Rattle.jhash.specs.Outcome.{value, refusal}
@@ -29,13 +29,10 @@ module _ (s : State) where
   unfolding close_refusal
   due_big h k = rw (h, k, and-false (consistent s)) refl
 
-  pub due_differs : fits s ≡ true → consistent s ≡ false → 4 ≡ close_refusal s
+  pub due_rest : fits s ≡ true → too_large s.writer.length (finished_size s.writer) ≡ false → (r : ℕ)
+      → r ≡ cond (consistent s) 0 4 → r ≡ close_refusal s
   unfolding close_refusal
-  due_differs h k = rw (h, k) refl
-
-  pub due_none : fits s ≡ true → too_large s.writer.length (finished_size s.writer) ≡ false → consistent s ≡ true → 0 ≡ close_refusal s
-  unfolding close_refusal
-  due_none h k l = rw (h, k, l) refl
+  due_rest h k r e = rw (h, k, and-true (consistent s)) e
 
 -- what an accepted close has passed
 pub record Accepted (s : State) : Type 0 where

@@ -1,5 +1,7 @@
 -- The writer record as C has it: 01, "The writer record". Assumes nothing.
-use Rattle.std.specs.Prelude.{ℕ, Bool, List, get_or}
+use Rattle.std.specs.Prelude.{ℕ, Bool, cond, List, get_or, Result, Ok, Err}
+use Rattle.jhash.specs.declared.refusals.Refusal.{Refusal}
+use Rattle.jhash.specs.declared.refusals.Refusal.TheVariants.{Unfit}
 use Rattle.image.specs.Image.{flag_word}
 use Rattle.writer.specs.declared.CQDBWriter.{CQDBWriter}
 use Rattle.writer.specs.State.{State, state_with}
@@ -17,6 +19,10 @@ writer_of r =
       entries = r.entries;
       back = r.back;
     }
+
+-- C's record is none of 01 where its mode or choice of repeats is neither 0 nor 1
+abbrev pub writer_read : Record → Result CQDBWriter Refusal
+writer_read r = cond (valid_numbers r.mode r.repeats) (Ok (writer_of r)) (Err Unfit)
 
 abbrev pub record_of : CQDBWriter → Record
 record_of w =

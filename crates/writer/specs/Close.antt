@@ -3,8 +3,6 @@ use Rattle.std.specs.Prelude.{ℕ, Bool, cond, not, ◌&&◌, List, ◌++◌, ta
 use Rattle.jhash.specs.Outcome.{Outcome, value, refusal}
 use Rattle.image.specs.Image.{Entry, head_size, back_size, back_in, image}
 use Rattle.image.specs.Stored.{whole, entries_in, between}
-use Rattle.writer.specs.declared.Closed.{Closed}
-use Rattle.writer.specs.declared.Closed.TheVariants.{Size, Refused}
 use Rattle.writer.specs.State.{State, counts_agree, fits, finished_size, too_large}
 use Rattle.jhash.specs.Refusals as refused
 
@@ -55,8 +53,3 @@ closed_image s = take (closed_size s) (after_close s).buffer
 -- what close answers: the image's size, or the refusal's number
 unfoldable pub closing : State → Outcome ℕ
 closing s = cond (eqb (close_refusal s) 0) (value (closed_size s)) (refusal (close_refusal s))
-
--- 01's number and value for each case of close's answer
-abbrev pub closed_of : Closed → Outcome ℕ
-closed_of (Size n) = value n
-closed_of (Refused k) = refusal k

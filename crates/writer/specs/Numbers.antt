@@ -1,5 +1,7 @@
 -- The numbers by which C names mode and choice of repeats: 01, "The image record", and 02 (viii). Assumes nothing.
-use Rattle.std.specs.Prelude.{ℕ, Bool, cond, ◌&&◌, eqb, leb}
+use Rattle.std.specs.Prelude.{ℕ, Bool, cond, ◌&&◌, eqb, leb, Result, Ok, Err}
+use Rattle.jhash.specs.declared.refusals.Refusal.{Refusal}
+use Rattle.jhash.specs.declared.refusals.Refusal.TheVariants.{Unfit}
 use Rattle.image.specs.declared.Mode.{Mode}
 use Rattle.image.specs.declared.Mode.TheVariants.{Twoway, Oneway}
 use Rattle.writer.specs.declared.Repeats.{Repeats}
@@ -19,3 +21,7 @@ repeats_of repeats = cond (eqb repeats 0) Off On
 abbrev pub repeats_word : Repeats → ℕ
 repeats_word Off = 0
 repeats_word On = 1
+
+-- the choice of repeats that a number stands for, if it is 0 or 1
+abbrev pub repeats_read : ℕ → Result Repeats Refusal
+repeats_read n = cond (leb n 1) (Ok (repeats_of n)) (Err Unfit)

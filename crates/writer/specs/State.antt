@@ -6,8 +6,6 @@ use Rattle.image.specs.declared.Mode.{Mode}
 use Rattle.writer.specs.declared.Repeats.{Repeats}
 use Rattle.writer.specs.declared.Repeats.TheVariants.{Off, On}
 use Rattle.writer.specs.declared.CQDBWriter.{CQDBWriter}
-use Rattle.writer.specs.declared.Begun.{Begun}
-use Rattle.writer.specs.declared.Begun.TheVariants.{Fresh, Refused}
 use Rattle.jhash.specs.Refusals as refused
 -- the rules of the record that serializing has too: the finished size; no table count exceeds a number; table counts
 -- agree with entries
@@ -66,8 +64,3 @@ beginning mode repeats n = cond (eqb (begin_refusal n) 0) (value (fresh_writer m
 -- the table counts of a fresh record; a refused begin leaves what was lent for them as it was
 unfoldable pub counts_begun : ℕ → List ℕ → List ℕ
 counts_begun n counts = cond (eqb (begin_refusal n) 0) (replicate 256 0) counts
-
--- 01's number and values for each case of begin's answer
-abbrev pub begun_of : Begun → Outcome CQDBWriter
-begun_of (Fresh w) = value w
-begun_of (Refused k) = refusal k

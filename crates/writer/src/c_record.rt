@@ -1,9 +1,10 @@
 // The writer record as C has it, but for the 256 table counts, which are lent apart.
 ghost use Rattle.std.specs.Prelude.{◌≡◌};
-ghost use Rattle.writer.specs.CRecord.{writer_of, record_of, record_in};
+ghost use Rattle.writer.specs.CRecord.{writer_read, record_of, record_in};
 
-use super::CQDBWriter;
-use super::numbers::{mode_of, repeats_of, repeats_word};
+use super::{CQDBWriter, Repeats};
+use image::Mode;
+use jhash::refusals::Refusal;
 
 // The mode (0 two-way, 1 one-way), the choice of repeats (0 off, 1 on), the number of entries, the back size, the
 // buffer's length and the end of the entries.
@@ -33,34 +34,38 @@ pub fn record_in(numbers: &[u32; 4], sizes: &[u64; 2]) -> Record
     }
 }
 
-// The record as the writer has it.
-pub fn writer_of(r: Record) -> CQDBWriter
-    ensures { result ≡ writer_of r }
-{
-    let mode = mode_of(r.mode);
-    let repeats = repeats_of(r.repeats);
-    CQDBWriter {
-        mode,
-        repeats,
-        length: r.length,
-        end: r.end,
-        entries: r.entries,
-        back: r.back,
+// The record as the writer has it; a record whose mode or choice of repeats is neither 0 nor 1 is none.
+impl TryFrom<Record> for CQDBWriter {
+    type Error = Refusal;
+
+    ghost try_from_gives = { λ r w. w ≡ writer_read r };
+
+    fn try_from(r: Record) -> Result<CQDBWriter, Refusal> {
+        let mode = Mode::try_from(r.mode)?;
+        let repeats = Repeats::try_from(r.repeats)?;
+        Ok(CQDBWriter {
+            mode,
+            repeats,
+            length: r.length,
+            end: r.end,
+            entries: r.entries,
+            back: r.back,
+        })
     }
 }
 
 // The writer's record as C has it.
-pub fn record_of(w: CQDBWriter) -> Record
-    ensures { result ≡ record_of w }
-{
-    let mode = w.mode;
-    let repeats = w.repeats;
-    Record {
-        mode: image::flag_word(mode),
-        repeats: repeats_word(repeats),
-        entries: w.entries,
-        back: w.back,
-        length: w.length,
-        end: w.end,
+impl From<CQDBWriter> for Record {
+    ghost from_gives = { λ w r. r ≡ record_of w };
+
+    fn from(w: CQDBWriter) -> Record {
+        Record {
+            mode: u32::from(w.mode),
+            repeats: u32::from(w.repeats),
+            entries: w.entries,
+            back: w.back,
+            length: w.length,
+            end: w.end,
+        }
     }
 }

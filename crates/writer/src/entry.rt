@@ -7,7 +7,6 @@ ghost use Rattle.writer.specs.Put.{entry_of, appended};
 ghost use Rattle.writer.specs.Steps.Storing.{StorePre, AppendPre};
 
 use super::CQDBWriter;
-use super::record::writer_after_put;
 use image::entries::raise;
 use image::store::{store_bytes, store_word};
 
@@ -23,21 +22,16 @@ pub fn store(buf: &mut [u8], at: usize, name: &[u8], id: u32)
     buf[at + 8 + name.len()] = 0;
 }
 
-// What an accepted put of a name with hash h does: it appends an entry (id, name length plus 1, the name, one zero
-// byte) and raises the count of its table.
-pub fn append(
-    w: CQDBWriter,
-    counts: &mut [u32; 256],
-    buf: &mut [u8],
-    name: &[u8],
-    id: u32,
-    h: u32,
-) -> CQDBWriter
-    requires { AppendPre (state_with w counts.old buf.old) (entry_of name.now id) h }
-    ensures { state_with result counts.new buf.new
-        ≡ appended (state_with w counts.old buf.old) (entry_of name.now id) }
-{
-    raise(&mut *counts, h);
-    store(&mut *buf, w.end as usize, name, id);
-    writer_after_put(w, name.len(), id)
+impl CQDBWriter {
+    // What an accepted put of a name with hash h does: it appends an entry (id, name length plus 1, the name, one zero
+    // byte) and raises the count of its table.
+    pub fn append(&mut self, counts: &mut [u32; 256], buf: &mut [u8], name: &[u8], id: u32, h: u32)
+        requires { AppendPre (state_with self.old counts.old buf.old) (entry_of name.now id) h }
+        ensures { state_with self.new counts.new buf.new
+            ≡ appended (state_with self.old counts.old buf.old) (entry_of name.now id) }
+    {
+        raise(counts, h);
+        store(buf, self.end as usize, name, id);
+        self.count_put(name.len(), id);
+    }
 }

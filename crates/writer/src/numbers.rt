@@ -1,45 +1,30 @@
-// The numbers by which C names a mode and the choice of repeats: 0 two-way and 1 one-way; 0 off and 1 on.
+// The number that stands for a choice of repeats in C: 0 off, 1 on.
 ghost use Rattle.std.specs.Prelude.{◌≡◌};
-ghost use Rattle.writer.specs.Numbers.{valid_numbers, mode_of, repeats_of, repeats_word};
+ghost use Rattle.writer.specs.Numbers.{repeats_word, repeats_read};
 
 use super::Repeats;
-use image::Mode;
-
-// Whether both numbers stand for something: 0 or 1.
-pub fn valid_numbers(mode: u32, repeats: u32) -> bool
-    ensures { result ≡ valid_numbers mode repeats }
-{
-    mode <= 1 && repeats <= 1
-}
-
-// The mode that a number stands for.
-pub fn mode_of(mode: u32) -> Mode
-    ensures { result ≡ mode_of mode }
-{
-    if mode == 0 {
-        Mode::Twoway
-    } else {
-        Mode::Oneway
-    }
-}
-
-// The choice of repeats that a number stands for.
-pub fn repeats_of(repeats: u32) -> Repeats
-    ensures { result ≡ repeats_of repeats }
-{
-    if repeats == 0 {
-        Repeats::Off
-    } else {
-        Repeats::On
-    }
-}
+use jhash::refusals::Refusal;
 
 // The number of a choice of repeats.
-pub fn repeats_word(repeats: Repeats) -> u32
-    ensures { result ≡ repeats_word repeats }
-{
-    match repeats {
-        Repeats::Off => 0,
-        Repeats::On => 1,
+impl From<Repeats> for u32 {
+    ghost from_gives = { λ r n. n ≡ repeats_word r };
+
+    fn from(repeats: Repeats) -> u32 {
+        repeats as u32
+    }
+}
+
+// The choice of repeats that a number stands for; no other number than 0 and 1 does.
+impl TryFrom<u32> for Repeats {
+    type Error = Refusal;
+
+    ghost try_from_gives = { λ n r. r ≡ repeats_read n };
+
+    fn try_from(number: u32) -> Result<Repeats, Refusal> {
+        match number {
+            0 => Ok(Repeats::Off),
+            1 => Ok(Repeats::On),
+            _ => Err(Refusal::Unfit),
+        }
     }
 }

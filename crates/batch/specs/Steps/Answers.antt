@@ -1,11 +1,11 @@
 -- What the steps that store a round's answers ask and promise. An answer is four words in its name's place.
-use Rattle.std.specs.Prelude.{ℕ, ◌+◌, ◌*◌, ◌≤◌, ◌<◌, ◌≡◌, false, List, [], ◌∷◌, length, get_or, set}
+use Rattle.std.specs.Prelude.{ℕ, ◌+◌, ◌*◌, ◌≤◌, ◌<◌, ◌≡◌, List, [], ◌∷◌, length, get_or, set}
 use Rattle.image.specs.Image.{head_size}
 use Rattle.reader.specs.Lookup.{lookup}
-use Rattle.reader.specs.Naming.{Naming, length_in}
-use Rattle.batch.specs.RoundNames.{most_names, names, invalid_ends, nth}
+use Rattle.batch.specs.RoundNames.{most_names, nth}
 use Rattle.batch.specs.Round.{answer_words, round_words, round_buckets}
-use Rattle.batch.specs.Steps.Duplicates.{Listed, RisingTo, HashedNames, EqualBefore, IsFirst, IsUnique}
+use Rattle.batch.specs.declared.names.Round.{Round}
+use Rattle.batch.specs.Steps.Duplicates.{round_names, Listed, RisingTo, EqualBefore, IsFirst, IsUnique}
 use Rattle.batch.specs.Steps.Probing.{SearchOpen, SearchDecided}
 
 -- four words stored in the i-th place, and the words in it
@@ -25,11 +25,6 @@ pub record CopyAnswerPre (answers : List ℕ) (from to : ℕ) : Type 0 where
   pub source : HasPlace answers from
   pub target : HasPlace answers to
 
--- a name's length is a word
-pub record PutPlacePre (answers : List ℕ) (i : ℕ) (x : Naming) : Type 0 where
-  pub inside : HasPlace answers i
-  pub short : length_in x < 4294967296
-
 -- a place holds these words
 abbrev pub Has : List ℕ → ℕ → List ℕ → Type 0
 Has answers i words = (w : ℕ) → w < 4 → get_or answers (4 * i + w) 0 ≡ get_or words w 0
@@ -38,9 +33,8 @@ Has answers i words = (w : ℕ) → w < 4 → get_or answers (4 * i + w) 0 ≡ g
 abbrev pub HasAnswer : List ℕ → List (List ℕ) → List ℕ → ℕ → Type 0
 HasAnswer image xs answers i = Has answers i (answer_words (lookup image (nth xs i)))
 
-pub record AnswerAllPre (bytes ends answers : List ℕ) : Type 0 where
+pub record AnswerAllPre (ends answers : List ℕ) : Type 0 where
   pub few : length ends ≤ most_names
-  pub valid : invalid_ends (length bytes) 0 ends ≡ false
   pub places : length answers ≡ 4 * length ends
 
 -- all names have their answers, and r buckets were read over the different ones
@@ -62,39 +56,40 @@ pub record PutDecidedPre (image name answers : List ℕ) (h offset c i : ℕ) : 
   pub small : c ≤ 512
   pub decided : SearchDecided image h c offset
 
--- m of the names are listed, and there is a place for the answer of each. Their indexes rise, and no name before one of
--- them equals it: so no two of them are equal
-pub record ListedNames (bytes ends hashes list answers : List ℕ) (m : ℕ) : Type 0 where
-  pub first : (x : ℕ) → x < m → IsFirst (names bytes ends) (get_or list x 0)
-  pub rising : RisingTo list m
-  pub names : HashedNames bytes ends hashes
-  pub places : 4 * length ends ≤ length answers
-  pub few : m ≤ most_names
-  pub capacity : m ≤ length list
-  pub below : (x : ℕ) → x < m → get_or list x 0 < length ends
+-- some of the names are listed, and there is a place for the answer of each. Their indexes rise, and no name before one
+-- of them equals it: so no two of them are equal
+pub record ListedNames (round : Round) (list answers : List ℕ) : Type 0 where
+  pub first : (x : ℕ) → x < length list → IsFirst (round_names round) (get_or list x 0)
+  pub rising : RisingTo list (length list)
+  pub places : 4 * length round.names.ends.now ≤ length answers
+  pub few : length list ≤ most_names
+  pub below : (x : ℕ) → x < length list → get_or list x 0 < length round.names.ends.now
 
 -- the c-th buckets of their searches have these offsets
-pub record DecidedNames (image bytes ends hashes list offsets answers : List ℕ) (m c : ℕ) : Type 0 where
-  pub listed : ListedNames bytes ends hashes list answers m
-  pub short : length bytes < 4294967295
+pub record DecidedNames (round : Round) (list offsets answers : List ℕ) (c : ℕ) : Type 0 where
+  pub listed : ListedNames round list answers
+  pub short : length round.names.bytes.now < 4294967295
   pub small : c ≤ 512
-  pub capacity : m ≤ length offsets
-  pub decided : (x : ℕ) → x < m → SearchDecided image (get_or hashes (get_or list x 0) 0) c (get_or offsets x 0)
+  pub capacity : length list ≤ length offsets
+  pub decided : (x : ℕ) → x < length list
+      → SearchDecided round.image.now (get_or round.hashes.now (get_or list x 0) 0) c (get_or offsets x 0)
 
 -- their searches are open after c buckets
-pub record OpenNames (image bytes ends hashes list answers : List ℕ) (m c : ℕ) : Type 0 where
-  pub listed : ListedNames bytes ends hashes list answers m
+pub record OpenNames (round : Round) (list answers : List ℕ) (c : ℕ) : Type 0 where
+  pub listed : ListedNames round list answers
   pub small : c ≤ 512
-  pub is_open : (x : ℕ) → x < m → SearchOpen image (get_or hashes (get_or list x 0) 0) c
+  pub is_open : (x : ℕ) → x < length list
+      → SearchOpen round.image.now (get_or round.hashes.now (get_or list x 0) 0) c
 
 -- the first m listed names have their answers
 abbrev pub ListedHaveAnswers : List ℕ → List (List ℕ) → List ℕ → List ℕ → ℕ → Type 0
 ListedHaveAnswers image xs list answers m = (x : ℕ) → x < m → HasAnswer image xs answers (get_or list x 0)
 
 -- and a name that has its answer keeps it; the places of names that are not listed keep their words
-pub record Answered (image bytes ends list before after : List ℕ) (m : ℕ) : Type 0 where
-  pub stays : (i : ℕ) → HasAnswer image (names bytes ends) before i → HasAnswer image (names bytes ends) after i
-  pub stored : ListedHaveAnswers image (names bytes ends) list after m
+pub record Answered (round : Round) (list before after : List ℕ) (m : ℕ) : Type 0 where
+  pub stays : (i : ℕ) → HasAnswer round.image.now (round_names round) before i
+      → HasAnswer round.image.now (round_names round) after i
+  pub stored : ListedHaveAnswers round.image.now (round_names round) list after m
   pub others : (i : ℕ) → (Listed list m i → ⊥) → Has after i (words_in before i)
 
 -- ---- duplicates
@@ -105,24 +100,23 @@ pub record UniqueAnswered (image : List ℕ) (xs : List (List ℕ)) (equals answ
   pub equal : (i : ℕ) → i < n → EqualBefore xs i (get_or equals i 0)
   pub have_answers : (i : ℕ) → i < n → IsUnique equals i → HasAnswer image xs answers i
 
--- for each of n names the number of an equal one before it, counted from 1, or 0; and the names' places
-pub record EqualsPre (equals answers : List ℕ) (n : ℕ) : Type 0 where
-  pub few : n ≤ most_names
-  pub inside : n ≤ length equals
-  pub places : 4 * n ≤ length answers
-  pub earlier : (i : ℕ) → i < n → get_or equals i 0 ≤ i
+-- for each name the number of an equal one before it, counted from 1, or 0; and the names' places
+pub record EqualsPre (equals answers : List ℕ) : Type 0 where
+  pub few : length equals ≤ most_names
+  pub places : 4 * length equals ≤ length answers
+  pub earlier : (i : ℕ) → i < length equals → get_or equals i 0 ≤ i
 
 -- the sum of the buckets read, each name counted once
-abbrev pub SumsUnique : List ℕ → List ℕ → ℕ → ℕ → Type 0
-SumsUnique equals answers n r =
-    (image : List ℕ) (xs : List (List ℕ)) → UniqueAnswered image xs equals answers n
+abbrev pub SumsUnique : List ℕ → List ℕ → ℕ → Type 0
+SumsUnique equals answers r =
+    (image : List ℕ) (xs : List (List ℕ)) → UniqueAnswered image xs equals answers (length equals)
     → r ≡ round_buckets image xs
 
 -- with the answers of unique names in `before`, all names have theirs
-abbrev pub AllAnswered : List ℕ → ℕ → List ℕ → List ℕ → Type 0
-AllAnswered equals n before after =
-    (image : List ℕ) (xs : List (List ℕ)) → UniqueAnswered image xs equals before n → (i : ℕ) → i < n
-    → HasAnswer image xs after i
+abbrev pub AllAnswered : List ℕ → List ℕ → List ℕ → Type 0
+AllAnswered equals before after =
+    (image : List ℕ) (xs : List (List ℕ)) → UniqueAnswered image xs equals before (length equals) → (i : ℕ)
+    → i < length equals → HasAnswer image xs after i
 
 -- the place of an answer to copy: its own, or that of the equal name before, whose number, counted from 1, is q
 pub record Source (i q r : ℕ) : Type 0 where

@@ -1,5 +1,5 @@
 -- What the passes over a round's open searches ask and promise.
-use Rattle.std.specs.Prelude.{ℕ, ◌+◌, ◌≤◌, ◌<◌, ◌≡◌, ◌⊎◌, List, length, get_or}
+use Rattle.std.specs.Prelude.{ℕ, ◌+◌, ◌≤◌, ◌<◌, ◌≡◌, ◌⊎◌, ◌==◌, Bool, true, false, not, ◌&&◌, List, length, get_or}
 use Rattle.image.specs.Image.{head_size}
 use Rattle.reader.specs.Lookup.{nothing, probe_entry, decide, lookup_hash}
 use Rattle.reader.specs.Steps.Resume.{search_from}
@@ -19,36 +19,28 @@ pub record SearchDecided (image : List ℕ) (h c e : ℕ) : Type 0 where
   pub by_entry : 0 < e → (name : List ℕ)
       → decide (probe_entry image name e) c (search_from image name h c) ≡ lookup_hash image name h
 
--- r is 1 where a search for the hash h passes a bucket, one of another hash that is not empty; else 0
-pub record Passes (hash h offset r : ℕ) : Type 0 where
-  pub small : r ≤ 1
-  pub other : r ≡ 1 → hash ≡ h → ⊥
-  pub taken : r ≡ 1 → 0 < offset
-  pub stops : r ≡ 0 → 0 < offset → hash ≡ h
+-- a search for the hash h passes a bucket of another hash that is not empty
+abbrev pub passes : ℕ → ℕ → ℕ → Bool
+passes hash h offset = not (hash == h) && not (offset == 0)
 
 pub record ProbeNextPre (image : List ℕ) (h c : ℕ) : Type 0 where
-  pub head : head_size ≤ length image
   pub small : c < 512
   pub is_open : SearchOpen image h c
 
--- what the c-th bucket of a search says: `on` is 1 where the search is open behind it, 0 where its offset decides
-pub record NextProbed (image : List ℕ) (h c offset on : ℕ) : Type 0 where
-  pub small : on ≤ 1
-  pub is_open : on ≡ 1 → SearchOpen image h c
-  pub decided : on ≡ 0 → SearchDecided image h c offset
+-- what the c-th bucket of a search says: the search is open behind it, or its offset decides
+pub record NextProbed (image : List ℕ) (h c offset : ℕ) (stays : Bool) : Type 0 where
+  pub is_open : stays ≡ true → SearchOpen image h c
+  pub decided : stays ≡ false → SearchDecided image h c offset
 
--- ---- a pass: q searches are open after c buckets, and each reads its next one
+-- ---- a pass: the searches listed in `live` are open after c buckets, and each reads its next one
 
-pub record PassPre (image hashes live done offsets : List ℕ) (c q : ℕ) : Type 0 where
+pub record PassPre (image hashes live : List ℕ) (c : ℕ) : Type 0 where
   pub head : head_size ≤ length image
   pub small : c < 512
-  pub few : q ≤ most_names
-  pub live_capacity : q ≤ length live
-  pub done_capacity : q ≤ length done
-  pub offsets_capacity : q ≤ length offsets
-  pub rising : RisingTo live q
-  pub hashed : (z : ℕ) → z < q → get_or live z 0 < length hashes
-  pub is_open : (z : ℕ) → z < q → SearchOpen image (get_or hashes (get_or live z 0) 0) c
+  pub few : length live ≤ most_names
+  pub rising : RisingTo live (length live)
+  pub hashed : (z : ℕ) → z < length live → get_or live z 0 < length hashes
+  pub is_open : (z : ℕ) → z < length live → SearchOpen image (get_or hashes (get_or live z 0) 0) c
 
 -- one of z searches that is open after c buckets, and one whose c-th bucket decides
 pub record StillOpen (image hashes first : List ℕ) (z c i : ℕ) : Type 0 where

@@ -1,10 +1,14 @@
 -- `build::build_direct` meets its contract. Assumes nothing.
 use Prim.Native.Nat.{ℕ, ◌-◌, ◌^◌, ◌≤◌, ◌<◌}
 use native.Mathlib.Omega.{arith}
-use mathlib.Core.Path.{◌≡◌, refl, sym, ap, ◌∙◌}
-use mathlib.Core.Bool.{Bool, true, ◌&&◌}
-use lib.ListN.{length, get_or, drop, replicate, length-replicate}
-use lib.Seq.{length-take-le, drop_at}
+use mathlib.Core.Path.{◌≡◌, refl, sym, ◌∙◌}
+use mathlib.Core.Bool.{Bool, true}
+use lib.ListN.{length, get_or}
+use lib.Seq.{length-take-le}
+use denote.Enum.Bare.{sameb}
+use Rattle.writer.specs.contracts.Repeats.{the_type}
+use Rattle.writer.specs.declared.Repeats.{Repeats}
+use Rattle.writer.specs.declared.Repeats.TheVariants.{Off, On}
 use Rattle.image.proofs.NameEnds.{begin_later, placed}
 use Rattle.serialize.specs.Steps.Meeting.{Distinct}
 use Rattle.writer.specs.State.{refuses_repeats}
@@ -16,48 +20,58 @@ use Rattle.build.proofs.build_direct.Goals.{After-any_zero, After-hash_list, Sta
 use Rattle.build.proofs.build_direct.Goals as goal
 
 -- ---- what is known at them
-words : (c : After-any_zero) (i : ℕ) → i < length c.args.ends.now → get_or c.args.ids.now i 0 < 2 ^ 32
+words : (c : After-any_zero) (i : ℕ) → i < length c.args.names.ends.now → get_or c.args.ids.now i 0 < 2 ^ 32
 words c i h = omega (arith, c.type_inv.ids i)
 
-hashes_long : (c : After-hash_list) → length c.args.ends.now ≤ length c.hash_list.new.hashes
+hashes_long : (c : After-hash_list) → length c.args.names.ends.now ≤ length c.hash_list.new.hashes
 hashes_long c = omega (arith, c.hash_list.auto.hashes, c.requires.list.refusals_long)
 
-few : (s : Start) → length s.args.ends.now ≤ 4294967295
+few : (s : Start) → length s.args.names.ends.now ≤ 4294967295
 few s = omega (arith, sum_small s.requires.list.ids_long s.requires.capacity.fits)
 
+-- repeats are refused with repeats off
+off_refused : (r : Repeats) {b : Bool} → b ≡ sameb the_type r Off → b ≡ refuses_repeats r
+off_refused Off e = e
+off_refused On e = e
+
 -- no name has a zero byte
-clean : (c : After-hash_list) → NoZeros c.args.bytes.now c.args.ends.now
+clean : (c : After-hash_list) → NoZeros c.args.names.bytes.now c.args.names.ends.now
 clean c =
-    let ends = c.args.ends.now in
+    let ends = c.args.names.ends.now in
     let some : length ends ≡ 0 → ⊥ = λ z. omega (arith, z, c.requires.capacity.some) in
-    names_zero_free c.args.bytes.now ends c.requires.list.packed _ (sym (begin_later ends (length ends) some))
+    names_zero_free c.args.names.bytes.now ends c.args.names.ends_rise _ (sym (begin_later ends (length ends) some))
     (sym c.any_zero.ensures ∙ c.if-any_zero.false)
 
 -- ---- the needs
 pub slice_bounds-any_zero-end : goal.slice_bounds-any_zero-end
 slice_bounds-any_zero-end c =
     let a = c.args in
-    let last = placed (length a.bytes.now) a.ends.now (length a.ends.now - 1) c.requires.list.packed (omega (arith, c.requires.capacity.some)) in
-    sym (length-take-le _ a.bytes.now last.inside)
+    let last = placed (length a.names.bytes.now) a.names.ends.now (length a.names.ends.now - 1) c.args.names.ends_rise (omega (
+      arith,
+      c.requires.capacity.some,
+    )) in
+    sym (length-take-le _ a.names.bytes.now last.inside)
 
 pub hash_list-requires : goal.hash_list-requires
 hash_list-requires c =
     let a = c.args in
     record {
-      packed = c.requires.list.packed;
       hashes_long = c.requires.list.refusals_long;
       number_word = few (goal.at.hash_list-requires c).Start;
-      short = names_short a.bytes.now a.ends.now c.requires.list.packed (omega (arith, sum_small c.requires.list.ids_long c.requires.capacity.fits));
+      short = names_short a.names.bytes.now a.names.ends.now c.args.names.ends_rise (omega (
+        arith,
+        sum_small c.requires.list.ids_long
+            c.requires.capacity.fits,
+      ));
       none = refl;
     }
 
-pub write_list-written-requires : goal.write_list-written-requires
-write_list-written-requires c =
+pub write_list-requires : goal.write_list-requires
+write_list-requires c =
     record {
       list = record {
-        packed = c.requires.list.packed;
         ids_long = c.requires.list.ids_long;
-        refusals_long = hashes_long (goal.at.write_list-written-requires c).After-hash_list;
+        refusals_long = hashes_long (goal.at.write_list-requires c).After-hash_list;
         head_fits = c.requires.list.head_fits;
       };
       capacity = c.requires.capacity;
@@ -65,37 +79,29 @@ write_list-written-requires c =
       tallies = c.hash_list.ensures.tallies c.args.ids.now c.requires.list.ids_long;
     }
 
-pub returns-then-stop-written : goal.returns-then-stop-written
-returns-then-stop-written c =
-    record {
-      count_fits = few (goal.at.returns-then-stop-written c).Start;
-      built = λ some. absurd (omega arith);
-      behind = c.write_list-written.ensures.behind;
-      rest = λ z. c.hash_list.ensures.rest;
-    }
+pub returns-in_err-size : goal.returns-in_err-size
+returns-in_err-size c =
+    rw c.from_residual.ensures (record { built = tt; behind = c.in_err-size.ensures; rest = λ z. c.hash_list.ensures.rest })
 
 pub returns : goal.returns
 returns c =
     let a = c.args in
-    let n = length a.ends.now in
-    let apart : refuses_repeats a.repeats ≡ true → Distinct (list_entries a.bytes.now a.ends.now a.ids.now) = λ off.
-    c.write_list-written.ensures.distinct
-    (sym (ap (λ (b : Bool). b && c.write_list-written.result.met) (c.refuses-stop.ensures ∙ off)) ∙ c.if-stop-written.false) in
+    let n = length a.names.ends.now in
     let at = goal.at.returns c in
-    let cleared = refusals_cleared n _ c.hash_list.new.hashes a.refusals.now c.clear_words.auto.words (hashes_long at.After-hash_list)
-    c.clear_words.ensures c.hash_list.ensures.rest in
-    let done = c.write_list-written.ensures in
+    let done = c.in_ok-size.ensures in
+    let apart : refuses_repeats a.repeats ≡ true → Distinct (list_entries a.names.bytes.now a.names.ends.now a.ids.now) = λ off.
+    done.distinct (off_refused a.repeats c.eq-stop.ensures ∙ off) in
+    let cleared = refusals_cleared n c.hash_list.new.hashes a.refusals.now (hashes_long at.After-hash_list) (c.fill.ensures.after (λ y e. e))
+    c.hash_list.ensures.rest in
     record {
-      count_fits = few at.Start;
-      built = λ some. all_built a.mode a.repeats c.requires.list c.requires.capacity.fits (words at.After-any_zero) (clean at.After-hash_list) apart
-          done.sized (done.leaves c.if-stop-written.false) done.behind cleared;
+      built = all_built a.mode a.repeats a.names.bytes.now c.requires.list c.args.names.ends_rise c.requires.capacity.fits (words at.After-any_zero)
+          (clean at.After-hash_list) apart done.sized done.leaves done.behind cleared;
       behind = done.behind;
-      rest = λ y. ap (drop n) cleared ∙ drop_at (replicate n 0) (drop n a.refusals.now) n (length-replicate {A = ℕ} n 0);
+      rest = λ z. cc;
     }
 
 pub returns-then-any_zero : goal.returns-then-any_zero
-returns-then-any_zero c =
-    record { count_fits = few (goal.at.returns-then-any_zero c).Start; built = λ some. absurd (omega arith); behind = refl; rest = λ z. refl }
+returns-then-any_zero c = record { built = tt; behind = refl; rest = λ z. refl }
 
-pub clear_words-requires : goal.clear_words-requires
-clear_words-requires c = omega (arith, hashes_long (goal.at.clear_words-requires c).After-hash_list)
+pub overflow_cast-accepted : goal.overflow_cast-accepted
+overflow_cast-accepted c = omega (arith, few (goal.at.overflow_cast-accepted c).Start)

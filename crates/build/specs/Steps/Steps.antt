@@ -1,8 +1,8 @@
 -- What the functions behind a whole list ask and give. No rule stands here: proofs/ joins it to the rules.
-use Rattle.std.specs.Prelude.{ℕ, ◌/◌, ◌≤◌, ◌<◌, ◌≡◌, false, List, ◌++◌, length, get_or, take, drop}
+use Rattle.std.specs.Prelude.{ℕ, ◌/◌, ◌≤◌, ◌<◌, ◌≡◌, List, ◌++◌, length, get_or, take, drop, Option, None, IfSome}
+use Rattle.jhash.specs.Outcome.{value}
 use Rattle.image.specs.Image.{Entry, head_size, image_size}
 use Rattle.image.specs.declared.Mode.{Mode}
-use Rattle.image.specs.PackedNames.{invalid_ends}
 use Rattle.writer.specs.declared.CQDBWriter.{CQDBWriter}
 use Rattle.writer.specs.declared.Repeats.{Repeats}
 use Rattle.writer.specs.State.{State, state_with, fresh}
@@ -12,18 +12,15 @@ use Rattle.lists.specs.Calls.{puts}
 use Rattle.lists.specs.Demand3.{answers_of, after_list, image_of}
 use Rattle.index.specs.Index.{slot_count, Right}
 use Rattle.build.specs.declared.Made.{Made}
-use Rattle.build.specs.declared.Built.{Built}
-use Rattle.build.specs.declared.Built.TheVariants.{Image}
-use Rattle.build.specs.Build.{calls_of, listed, building, answers_after, built_of}
+use Rattle.build.specs.Build.{calls_of, listed, building, answers_after}
 use Rattle.build.specs.Steps.Capacity.{Capacity}
 
 -- the entries of names and ids, where every name is accepted
 abbrev pub entries_listed : List (List ℕ) → List ℕ → List Entry
 entries_listed xs ids = puts (calls_of xs ids)
 
--- a list that is not refused as a whole
-pub record ListPre (buffer bytes ends ids refusals : List ℕ) : Type 0 where
-  pub packed : invalid_ends (length bytes) 0 ends ≡ false
+-- a list that is not refused as a whole, beside its packed names
+pub record ListPre (buffer ends ids refusals : List ℕ) : Type 0 where
   pub ids_long : length ends ≤ length ids
   pub refusals_long : length ends ≤ length refusals
   pub head_fits : head_size ≤ length buffer
@@ -36,26 +33,25 @@ KeptBehind mode bytes ends ids buffer bufferThen =
 
 -- the call's promise: what it gives, and the buffer and the refusals afterwards
 pub record ListBuilt (mode : Mode) (repeats : Repeats) (buffer bytes ends ids refusals : List ℕ)
-    (built : Built) (bufferThen refusalsThen : List ℕ) : Type 0 where
-  pub gives : built_of built ≡ building mode repeats buffer bytes ends ids (length refusals)
+    (made : Made) (bufferThen refusalsThen : List ℕ) : Type 0 where
+  pub gives : value made ≡ building mode repeats buffer bytes ends ids (length refusals)
   pub imaged : take (closed_size (after_list mode repeats buffer (listed bytes ends ids))) bufferThen
       ≡ image_of mode repeats buffer (listed bytes ends ids)
   pub behind : KeptBehind mode bytes ends ids buffer bufferThen
   pub answers : refusalsThen ≡ answers_after mode repeats buffer bytes ends ids refusals
 
 -- a list that the direct path is tried for
-pub record DirectPre (mode : Mode) (buffer bytes ends ids refusals : List ℕ) : Type 0 where
-  pub list : ListPre buffer bytes ends ids refusals
+pub record DirectPre (mode : Mode) (buffer ends ids refusals : List ℕ) : Type 0 where
+  pub list : ListPre buffer ends ids refusals
   pub capacity : Capacity mode ends ids (length buffer)
 
--- the direct path: the size of the image of all names, or 0
+-- the direct path: the image of all names, or none
 pub record DirectTried (mode : Mode) (repeats : Repeats) (buffer bytes ends ids refusals : List ℕ)
-    (size : ℕ) (bufferThen refusalsThen : List ℕ) : Type 0 where
-  pub count_fits : length ends ≤ 4294967295
-  pub built : 0 < size → ListBuilt mode repeats buffer bytes ends ids refusals
-      (Image (record { size = size; accepted = length ends })) bufferThen refusalsThen
+    (made : Option Made) (bufferThen refusalsThen : List ℕ) : Type 0 where
+  pub built : IfSome made
+      (λ (m : Made). ListBuilt mode repeats buffer bytes ends ids refusals m bufferThen refusalsThen)
   pub behind : KeptBehind mode bytes ends ids buffer bufferThen
-  pub rest : size ≡ 0 → drop (length ends) refusalsThen ≡ drop (length ends) refusals
+  pub rest : made ≡ None → drop (length ends) refusalsThen ≡ drop (length ends) refusals
 
 -- how many words of the scratch memory are the index of n names: none, or at least a slot for each name
 pub record ScratchForIndex (n words r : ℕ) : Type 0 where
@@ -75,8 +71,8 @@ pub record PutPost (s : State) (slots : List ℕ) (e : Entry) (refusal : ℕ) (t
     pub index : 0 < length slots → Right then slotsThen
 
 -- the puts of a list by a fresh record; the slots are empty
-pub record PutListPre (w : CQDBWriter) (counts buffer slots bytes ends ids refusals : List ℕ) : Type 0 where
-  pub list : ListPre buffer bytes ends ids refusals
+pub record PutListPre (w : CQDBWriter) (counts buffer slots ends ids refusals : List ℕ) : Type 0 where
+  pub list : ListPre buffer ends ids refusals
   pub begun : state_with w counts buffer ≡ fresh w.mode w.repeats buffer
   pub cleared : (i : ℕ) → get_or slots i 0 ≡ 0
   pub enough : 0 < length slots → length ends ≤ slot_count slots

@@ -1,8 +1,9 @@
--- The postcondition of `image_size_at`, as a record whose fields are its parts.
-use Rattle.std.specs.Prelude.{ℕ, ◌+◌, ◌≤◌, ◌≡◌, cond, List, length}
-use Rattle.bundle.specs.FileWalk.{size_at, breaks}
+-- The postcondition of `image_size_at`: a step of the walk.
+use Rattle.std.specs.Prelude.{ℕ, List}
+use Rattle.jhash.specs.Outcome.{Outcome, value, refusal}
+use Rattle.jhash.specs.Refusals as refused
+use Rattle.bundle.specs.FileWalk.{size_at, file_step}
 
--- r is the size of the image that begins at `at`, 0 where the walk breaks off there
-pub record ImageSizeRead (file : List ℕ) (at r : ℕ) : Type 0 where
-  pub size : r ≡ cond (breaks file at) 0 (size_at file at)
-  pub inside : at + r ≤ length file
+-- the size of the image that begins at a place; 10 where the walk breaks off there, 11 where the file ends there
+abbrev pub image_size : List ℕ → ℕ → Outcome ℕ
+image_size file at = file_step file at (refusal refused.no_such_image) (value (size_at file at))

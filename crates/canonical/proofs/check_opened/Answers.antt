@@ -1,14 +1,11 @@
 -- `canonical::check_opened` meets its contract. Assumes nothing.
-use native.Mathlib.Omega.{arith}
-use Prim.Native.Nat.{ℕ, ◌+◌, ◌*◌, ◌-◌}
-use mathlib.Core.Path.{◌≡◌, sym, ap, ap₂, ◌∙◌}
-use mathlib.Core.Bool.{false, cond}
-use lib.Dec.{eqb}
+use Rattle.std.proofs.Common.{arith, ℕ, ◌+◌, ◌*◌, ◌-◌, ◌≡◌, sym, ap, ap₂, ◌∙◌, false, cond, eqb}
 use Rattle.jhash.specs.Word.{AllBytes}
 use Rattle.image.specs.Head.{back_size_at}
+use Rattle.image.specs.declared.Mode.TheVariants.{Twoway, Oneway}
 use Rattle.canonical.specs.Steps.Checks.{end_in, Checked}
 use Rattle.canonical.specs.Canonical.{canonical}
-use Rattle.canonical.proofs.Decision.{refuse, decided}
+use Rattle.canonical.proofs.Decision.{mode_read_ok, mode_read_err, refuse, decided}
 use Rattle.canonical.proofs.TableChecks.{opened_inside}
 use Rattle.canonical.proofs.check_opened.Goals.{After-offset_or_zero, After-size_or_zero-size}
 use Rattle.canonical.proofs.check_opened.Goals as goal
@@ -32,9 +29,9 @@ pub returns-then-size-image : goal.returns-then-size-image
 returns-then-size-image c = refused (goal.at.returns-then-size-image c).After-size_or_zero-size
     (λ k. c.if-size-image.true (c.size_or_zero-size.ensures.is ∙ k.size))
 
-pub returns-then-word_or_zero-gt1 : goal.returns-then-word_or_zero-gt1
-returns-then-word_or_zero-gt1 c = refused (goal.at.returns-then-word_or_zero-gt1 c).After-size_or_zero-size
-    (λ k. omega (arith, k.flag, c.word_or_zero.ensures, c.if-word_or_zero-gt1.true))
+pub returns-in_default : goal.returns-in_default
+returns-in_default c = refused (goal.at.returns-in_default c).After-size_or_zero-size
+    (λ k. mode_read_err c.word_or_zero.result _ c.in_default.ensures (omega (arith, k.flag, c.word_or_zero.ensures)))
 
 pub returns-then-size-behind : goal.returns-then-size-behind
 returns-then-size-behind c =
@@ -50,6 +47,9 @@ returns-then-size_or_zero-offset_or_zero c =
 pub check_body-requires : goal.check_body-requires
 check_body-requires c =
     record {
+      mode_there =
+          (mode_read_ok c.word_or_zero.result c.in-Ok.mode c.in-Ok.ensures).1
+          ∙ ap (λ (w : ℕ). cond (eqb w 0) Twoway Oneway) c.word_or_zero.ensures;
       area = record { from = omega arith; inside = omega arith; small = omega (arith, c.size_or_zero-size.ensures.small) };
       back_small = c.size_or_zero-back.ensures.small;
       tables = opened_inside c.args.image.now c.args.n c.requires;
@@ -61,7 +61,7 @@ returns c =
     let back = c.size_or_zero-back.result in
     decided c.args.image.now n (bytes (goal.at.returns c).After-size_or_zero-size) c.requires (c.size_or_zero-size.result - (16 * n + 4 * back))
     back (sym c.size_or_zero-size.ensures.is ∙ c.if-size-image.false)
-    (omega (arith, c.word_or_zero.ensures, c.if-word_or_zero-gt1.false)) c.size_or_zero-back.ensures.is
+    (omega (arith, c.word_or_zero.ensures, (mode_read_ok c.word_or_zero.result c.in-Ok.mode c.in-Ok.ensures).0)) c.size_or_zero-back.ensures.is
     (omega (arith, c.if-size-behind.false))
     (ap (λ (l : ℕ). l - (16 * n + 4 * back)) c.if-size-image.false)
     (sym c.size_or_zero.ensures.is ∙ c.if-size_or_zero-offset_or_zero.false ∙ c.offset_or_zero.ensures)

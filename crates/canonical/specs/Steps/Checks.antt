@@ -1,6 +1,7 @@
 -- The checks by which the code decides whether an image is canonical, in place and without a second buffer. All of them
 -- hold exactly when it is.
-use Rattle.std.specs.Prelude.{ℕ, ◌+◌, ◌*◌, ◌-◌, ◌/◌, ◌≤◌, ◌<◌, ◌≡◌, Bool, true, cond, not, ◌&&◌, ◌||◌, List, [], ◌∷◌}
+use Rattle.std.specs.Prelude.{ℕ, ◌+◌, ◌*◌, ◌-◌, ◌/◌, ◌≤◌, ◌<◌, ◌≡◌, Bool, true, false, cond, not, ◌&&◌, ◌||◌, List, []}
+use Rattle.std.specs.Prelude.{◌∷◌}
 use Rattle.std.specs.Prelude.{length, get_or, take, drop, replicate, eqb, ltb}
 use Rattle.jhash.specs.NameHash.{hash_of}
 use Rattle.jhash.specs.Outcome.{value}
@@ -11,6 +12,8 @@ use Rattle.image.specs.Stored.{whole, entries_in, between}
 use Rattle.image.specs.Tables.{table_of, start}
 use Rattle.image.specs.Tally.{tallied}
 use Rattle.image.specs.Zero.{has_zero}
+use Rattle.image.specs.declared.Mode.{Mode}
+use Rattle.image.specs.declared.Mode.TheVariants.{Twoway, Oneway}
 use Rattle.image.specs.Steps.Contracts.{offset_at, first_empty_before}
 use Rattle.reader.specs.Open.{opening}
 use Rattle.canonical.specs.Steps.HiddenBuckets.{sum_to, used_to, own_back_words}
@@ -98,6 +101,11 @@ name_ok img at name = not (has_zero name) && in_its_bucket img (hash_of name) at
 -- is an image two-way?
 abbrev pub two_way : List ℕ → Bool
 two_way img = eqb (word img 8) 0
+
+-- is a mode two-way?
+abbrev pub is_two : Mode → Bool
+is_two Twoway = true
+is_two Oneway = false
 
 -- the back word w is not below the entry's offset `at`; a one-way image has no back words
 abbrev pub not_before : Bool → ℕ → ℕ → Bool

@@ -3,17 +3,11 @@ use Rattle.std.proofs.Common.{arith, sym}
 use Rattle.catalogue.proofs.InputRead.{stepping}
 use Rattle.catalogue.proofs.print_walk.Goals as goal
 
-pub overflow_add-start : goal.overflow_add-start
-overflow_add-start g c =
-    let s = stepping c.args.image.now c.loop-id.walk.next c.in-Item.id c.in-Item.start c.in-Item.len c.in-Item.iter.next (sym c.in-Item.ensures) in
-    omega (arith, s.inside)
+pub overflow_add-place : goal.overflow_add-place
+overflow_add-place g c = let s = stepping _ _ _ _ _ _ (sym c.in-Some.ensures) in omega (arith, s.inside)
 
 pub slice_bounds-print_line-end : goal.slice_bounds-print_line-end
-slice_bounds-print_line-end g c =
-    let s = stepping c.args.image.now c.loop-id.walk.next c.in-Item.id c.in-Item.start c.in-Item.len c.in-Item.iter.next (sym c.in-Item.ensures) in
-    omega (arith, s.inside)
+slice_bounds-print_line-end g c = let s = stepping _ _ _ _ _ _ (sym c.in-Some.ensures) in omega (arith, s.inside)
 
-pub loop-id-smaller : goal.loop-id-smaller
-loop-id-smaller g c =
-    let s = stepping c.args.image.now c.loop-id.walk.next c.in-Item.id c.in-Item.start c.in-Item.len c.in-Item.iter.next (sym c.in-Item.ensures) in
-    omega (arith, s.onward)
+pub loop-item-smaller : goal.loop-item-smaller
+loop-item-smaller g c = let s = stepping _ _ _ _ _ _ (sym c.in-Some.ensures) in omega (arith, s.onward)

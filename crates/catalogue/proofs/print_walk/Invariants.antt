@@ -1,8 +1,9 @@
+-- Each step goes on at the next id.
 use Rattle.std.proofs.Common.{◌-◌, ◌^◌}
 use Rattle.catalogue.proofs.print_walk.Given as goal
 
-abbrev pub invariant-loop-id : goal.invariant-loop-id
-invariant-loop-id g l = Unit {0}
+abbrev pub invariant-loop-item : goal.invariant-loop-item
+invariant-loop-item g l = Unit {0}
 
-abbrev pub decreases-loop-id : goal.decreases-loop-id
-decreases-loop-id g l = 2 ^ 32 - l.walk.next
+abbrev pub decreases-loop-item : goal.decreases-loop-item
+decreases-loop-item g l = 2 ^ 32 - l.walk.next

@@ -11,7 +11,7 @@ loop-init g c = record { taken = none_taken _ _; buf_length = refl; room_length 
 pub loop-preserved : goal.loop-preserved
 loop-preserved g c =
     let was = c.loop.invariant in
-    let turn = c.take_piece-t.auto in
+    let turn = c.take_piece.auto in
     let read = c.read.auto.buf in
     let buf = was.buf_length in
     let room = was.room_length in
@@ -21,8 +21,8 @@ loop-preserved g c =
           more_taken (g.R.Read.remaining c.args.input.now) (g.R.Read.remaining c.loop.input) (g.R.Read.remaining c.read.new.self)
           (gathering (record { writer = c.args.w; have = 0 }) c.args.counts.now c.args.buf.now c.args.room.now)
           (gathering c.loop.t c.loop.counts c.loop.buf c.loop.room)
-          (gathering c.take_piece-t.result c.take_piece-t.new.counts c.take_piece-t.new.buf c.take_piece-t.new.room)
-          (take c.in-Ok.n c.read.new.buf) was.taken c.take_piece-t.ensures c.in-Ok.ensures.bytes.0;
+          (gathering c.take_piece.new.self c.take_piece.new.counts c.take_piece.new.buf c.take_piece.new.room)
+          (take c.in-Ok.n c.read.new.buf) was.taken c.take_piece.ensures c.in-Ok.ensures.bytes.0;
       buf_length = omega (arith, turn.buf, buf);
       room_length = omega (arith, turn.room, room);
       piece_length = omega (arith, read, piece);

@@ -5,7 +5,7 @@ use Rattle.image.specs.Bytes.{filter, range, word}
 use Rattle.image.specs.Stored.{name_at, broken}
 use Rattle.reader.specs.Naming.{name_given}
 use Rattle.reader.specs.Lookup.{found, lookup}
-use Rattle.reader.specs.declared.Found.{Found}
+use Rattle.reader.specs.Lookup.{Found}
 use Rattle.changes.specs.Changes.{upper, differs, first_change, Change, changed, unchanged, next_change}
 use Rattle.changes.specs.Moves.{moved}
 

@@ -1,5 +1,10 @@
 -- What the functions ask of their callers and promise, by name.
-use Rattle.std.specs.Prelude.{◌≡◌, ℕ, ◌+◌, ◌-◌, ◌*◌, ◌<◌, ◌≤◌, cond, List, length, take, drop, nat_lt, slice_index}
+use Rattle.std.specs.Prelude.{◌≡◌, ℕ, ◌+◌, ◌-◌, ◌*◌, ◌<◌, ◌≤◌, cond, List, length, take, drop, ◌==◌, nat_lt, nat_le}
+use Rattle.std.specs.Prelude.{Result, Ok, Err}
+use Rattle.jhash.specs.declared.refusals.Refusal.{Refusal}
+use Rattle.jhash.specs.declared.refusals.Refusal.TheVariants.{Unfit}
+use Rattle.image.specs.declared.Mode.{Mode}
+use Rattle.image.specs.declared.Mode.TheVariants.{Twoway, Oneway}
 use Rattle.image.specs.Bytes.{word}
 use Rattle.image.specs.Stored.{between}
 use Rattle.image.specs.Tables.{probe_sequence, first_empty}
@@ -23,12 +28,11 @@ pub record LengthBeforeZero (name : List ℕ) (r : ℕ) : Type 0 where
   pub is : r ≡ length (before_zero name)
   pub most : r ≤ length name
 
--- ---- scratch memory
+-- ---- the mode
 
--- the first n words are 0, and those behind them as they were
-pub record Cleared (n : ℕ) (before after : List ℕ) : Type 0 where
-  pub zero : (i : ℕ) → i < n → slice_index after i ≡ 0
-  pub kept : (i : ℕ) → n ≤ i → slice_index after i ≡ slice_index before i
+-- the mode that a number stands for: 0 two-way, 1 one-way, no other
+abbrev pub mode_read : ℕ → Result Mode Refusal
+mode_read n = cond (nat_le n 1) (Ok (cond (n == 0) Twoway Oneway)) (Err Unfit)
 
 -- ---- the probe sequence
 
@@ -71,10 +75,15 @@ pub record WholeLengthPre (buf : List ℕ) (at end : ℕ) : Type 0 where
   pub from : at ≤ end
   pub inside : end ≤ length buf
 
--- its length word, 0 where it is not whole
-pub record WholeLength (buf : List ℕ) (at end r : ℕ) : Type 0 where
-  pub is : r ≡ whole_length (between buf at end)
-  pub small : r < 4294967296
+-- it is not whole: `whole_length` gives 0
+abbrev pub NotWhole : List ℕ → ℕ → ℕ → Type 0
+NotWhole buf at end = whole_length (between buf at end) ≡ 0
+
+-- it is whole, and n is its length word
+pub record WholeLength (buf : List ℕ) (at end n : ℕ) : Type 0 where
+  pub is : n ≡ whole_length (between buf at end)
+  pub some : 0 < n
+  pub small : n < 4294967296
 
 -- the entry at `at` with length word n lies in the buffer
 pub record NameAtPre (buf : List ℕ) (at n : ℕ) : Type 0 where

@@ -1,5 +1,5 @@
 -- What the walk over entries needs and promises.
-use Rattle.std.specs.Prelude.{◌≡◌, ℕ, ◌≤◌, true, List, length, slice_index}
+use Rattle.std.specs.Prelude.{◌≡◌, ℕ, ◌≤◌, true, false, List, length, slice_index}
 use Rattle.jhash.specs.NameHash.{hash_or_zero}
 use Rattle.image.specs.Image.{Entry, head_size, back_size, contains_name}
 use Rattle.image.specs.Stored.{whole, entries_in, between}
@@ -21,9 +21,13 @@ pub record WalkPre (buf : List ℕ) (end : ℕ) (counts : List ℕ) : Type 0 whe
 abbrev pub entries_to : List ℕ → ℕ → ℕ → List Entry
 entries_to buf end n = entries_in n (between buf head_size end)
 
--- whether they are whole; if so their back size, whether one has the sought name, and their counts
+-- they are not the bytes before `end`
+abbrev pub NoneWalked : List ℕ → ℕ → ℕ → Type 0
+NoneWalked buf end n = whole n (between buf head_size end) ≡ false
+
+-- they are, with their back size, whether one has the sought name, and their counts
 pub record WalkedEntries (buf : List ℕ) (end n : ℕ) (sought counts₀ counts : List ℕ) (r : Walked) : Type 0 where
-  pub whole_is : r.whole ≡ whole n (between buf head_size end)
-  pub back_is : r.whole ≡ true → r.back ≡ back_size (entries_to buf end n)
-  pub contains_is : r.whole ≡ true → r.contains ≡ contains_name sought (entries_to buf end n)
-  pub counts_are : r.whole ≡ true → counts ≡ tallied counts₀ (entries_to buf end n)
+  pub whole_is : whole n (between buf head_size end) ≡ true
+  pub back_is : r.back ≡ back_size (entries_to buf end n)
+  pub contains_is : r.contains ≡ contains_name sought (entries_to buf end n)
+  pub counts_are : counts ≡ tallied counts₀ (entries_to buf end n)

@@ -1,86 +1,42 @@
 -- `index::fill` meets its contract. The loop's invariant: the slots are those of the entries passed. Assumes nothing.
-use Prim.Native.Nat.{◌+◌, ◌-◌}
-use native.Mathlib.Omega.{arith}
-use mathlib.Core.Path.{sym, subst}
+use Rattle.std.proofs.Common.{refl, arith}
 use Rattle.jhash.proofs.Outcomes.{result_refused, result_name_hash}
 use Rattle.image.proofs.Between.{entry_room}
-use Rattle.index.proofs.MakeIndex.{Filling, EntryRead, filling_start, not_broken, empty_slot, filling_turn, filling_end}
-use Rattle.index.proofs.fill.Goals.{After-first_empty_slot-k}
+use Rattle.index.proofs.MakeIndex.{EntryRead, filling_start, not_broken, empty_slot, filling_turn, filling_end}
 use Rattle.index.proofs.fill.Goals as goal
 
-read : (p : After-first_empty_slot-k) → EntryRead p.args.buf.now p.loop-left.at p.args.end p.whole_length-n.result
-    p.name_at.result.now p.in-Hash.h
-read p =
-    record {
-      is = p.whole_length-n.ensures.is;
-      named = p.name_at.ensures.is;
-      sized = p.name_at.ensures.size;
-      hash =
-          (result_name_hash p.name_at.result.now p.name_hash.result p.in-Hash.h p.name_hash.ensures
-          p.in-Hash.is).1;
-    }
+pub loop-init : goal.loop-init
+loop-init c = filling_start c.requires (omega arith)
 
-pub loop-left-init : goal.loop-left-init
-loop-left-init c = filling_start c.requires
-
-pub whole_length-n-requires : goal.whole_length-n-requires
-whole_length-n-requires c = record { from = c.loop-left.invariant.inside; inside = c.requires.inside }
-
-pub shape_of-slots-then-n-eq0 : goal.shape_of-slots-then-n-eq0
-shape_of-slots-then-n-eq0 c = c.loop-left.invariant.long
-
-pub returns-then-n-eq0 : goal.returns-then-n-eq0
-returns-then-n-eq0 c =
-    let n = c.whole_length-n in
-    absurd (not_broken c.requires c.loop-left.invariant c.loop-left-test.true n.result n.ensures.is c.if-n-eq0.true)
+pub returns-in_default : goal.returns-in_default
+returns-in_default c = absurd (not_broken c.requires c.loop.invariant (omega arith) c.in_default.ensures)
 
 pub name_at-requires : goal.name_at-requires
 name_at-requires c =
-    let n = c.whole_length-n in
-    (entry_room c.args.buf.now c.loop-left.at c.args.end n.result c.loop-left.invariant.inside c.requires.inside n.ensures.is c.if-n-eq0.false).name
+    let w = c.in-Some.ensures in
+    (entry_room c.args.buf.now c.loop.at c.args.end c.in-Some.n c.loop.invariant.inside c.requires.inside w.is (λ z. omega (arith, z, w.some))).name
 
-pub shape_of-slots-in_default : goal.shape_of-slots-in_default
-shape_of-slots-in_default c =
-    c.loop-left.invariant.long
+pub returns-in_default-name_hash : goal.returns-in_default-name_hash
+returns-in_default-name_hash c =
+    let d = c.in_default-name_hash in
+    let long = result_refused c.name_at.result.now 0 c.name_hash.result d.field-0 c.name_hash.ensures d.is in
+    absurd (omega (arith, long, c.name_at.ensures.size, c.in-Some.ensures.small))
 
-pub returns-in_default : goal.returns-in_default
-returns-in_default c =
-    let named = c.name_at in
-    let n = c.whole_length-n in
-    let long = result_refused named.result.now 0 c.name_hash.result c.name_hash.ensures c.in_default.is in
-    absurd (omega (arith, long, named.ensures.size, n.ensures.small))
+pub returns-in_default-first_empty_slot : goal.returns-in_default-first_empty_slot
+returns-in_default-first_empty_slot c =
+    absurd (omega (arith, c.in_default-first_empty_slot.ensures, (empty_slot c.requires c.loop.invariant (omega arith) _ c.in-Ok.h refl).0))
 
-pub overflow_cast-at : goal.overflow_cast-at
-overflow_cast-at c =
-    record { fits = omega (arith, c.loop-left.invariant.inside, c.requires.small) }
-
-pub store_slot-requires : goal.store_slot-requires
-store_slot-requires c =
-    (empty_slot c.requires c.loop-left.invariant c.loop-left-test.true c.first_empty_slot-k.result c.in-Hash.h c.first_empty_slot-k.ensures).0
-
-pub overflow_add-at : goal.overflow_add-at
-overflow_add-at c = omega (arith, c.whole_length-n.ensures.small)
-
-pub overflow_add-at-in-loop-left : goal.overflow_add-at-in-loop-left
-overflow_add-at-in-loop-left c =
-    omega (arith, c.whole_length-n.ensures.small, c.loop-left.invariant.inside, c.requires.small)
-
-pub overflow_sub-left : goal.overflow_sub-left
-overflow_sub-left c = omega (arith, c.loop-left-test.true)
-
-pub loop-left-smaller : goal.loop-left-smaller
-loop-left-smaller c = omega (arith, c.loop-left-test.true)
-
-pub loop-left-preserved : goal.loop-left-preserved
-loop-left-preserved c =
-    let a = c.args in
-    let next = c.loop-left.at + (8 + c.whole_length-n.result) in
-    subst (Filling a.buf.now a.end a.entries a.slots.now next (c.loop-left.left - 1)) (sym c.store_slot.ensures)
-    (filling_turn c.requires c.loop-left.invariant c.loop-left-test.true (read (goal.at.loop-left-preserved c).After-first_empty_slot-k)
-    c.first_empty_slot-k.ensures)
-
-pub shape_of-slots : goal.shape_of-slots
-shape_of-slots c = c.loop-left.invariant.long
+pub loop-preserved : goal.loop-preserved
+loop-preserved c =
+    let w = c.in-Some.ensures in
+    let read : EntryRead c.args.buf.now c.loop.at c.args.end c.in-Some.n c.name_at.result.now c.in-Ok.h =
+    record {
+      is = w.is;
+      named = c.name_at.ensures.is;
+      sized = c.name_at.ensures.size;
+      hash = (result_name_hash c.name_at.result.now c.name_hash.result c.in-Ok.h c.name_hash.ensures c.in-Ok.is).1;
+    } in
+    filling_turn c.requires c.loop.invariant (omega arith) read c.in-Some-first_empty_slot.ensures.is (omega arith) c.store_slot.ensures
 
 pub returns : goal.returns
-returns c = filling_end c.requires c.loop-left.invariant (omega (arith, c.loop-left-test.false))
+returns c = filling_end c.requires c.loop.invariant (omega arith)

@@ -1,12 +1,8 @@
--- `jhash::plus` meets its contract, field by field. Assumes nothing.
+-- `jhash::plus` meets its contract. Assumes nothing.
+use Rattle.std.proofs.Common.{refl}
 use Rattle.jhash.specs.Lookup3.{plus}
 use Rattle.jhash.proofs.plus.Goals as goal
 
 pub returns : goal.returns
 unfolding plus
-returns c =
-    λ i. record {
-      a = c.wrapping_add_u32.ensures.value i;
-      b = c.wrapping_add_u32-2.ensures.value i;
-      c = c.wrapping_add_u32-3.ensures.value i;
-    }
+returns c = refl

@@ -1,21 +1,15 @@
 -- `load::put_entries` meets its contract: what is left to be put makes of what was put what the whole load leaves. Assumes nothing.
-use Prim.Native.Nat.{ℕ, ◌-◌, ◌≤◌}
+use Prim.Native.Nat.{ℕ, ◌-◌}
 use mathlib.Core.Path.{◌≡◌}
-use lib.ListN.{length}
 use Rattle.writer.specs.State.{State, state_with}
 use Rattle.load.specs.States.{state_after}
 use Rattle.load.specs.Load.{put_from}
 use Rattle.load.proofs.put_entries.Given as goal
 
 pub record Inv (seed : ℕ) (s₀ s : State) (state i : ℕ) : Type 0 where
-  pub inside : i ≤ 4096
   pub state_is : state ≡ state_after seed i
   pub whole : put_from seed (4096 - i) i s ≡ put_from seed 4096 0 s₀
-  pub buf_length : length s.buffer ≡ length s₀.buffer
 
 abbrev pub invariant-loop-i : goal.invariant-loop-i
 invariant-loop-i l =
-    Inv l.seed (state_with l.initial.after l.initial.counts l.initial.buf) (state_with l.after l.counts l.buf) l.state l.i
-
-abbrev pub decreases-loop-i : goal.decreases-loop-i
-decreases-loop-i l = 4096 - l.i
+    Inv l.seed (state_with l.initial.w l.initial.counts l.initial.buf) (state_with l.w l.counts l.buf) l.state l.i

@@ -1,6 +1,6 @@
 -- `one_to_one::one_to_one` meets its contract. Assumes nothing.
-use mathlib.Core.Path.{◌≡◌, sym, ◌∙◌}
-use mathlib.Core.Bool.{true}
+use Rattle.std.proofs.Common.{◌≡◌, sym, ap, ◌∙◌, true}
+use Rattle.jhash.specs.Outcome.{value}
 use Rattle.canonical.specs.Canonical.{canonical}
 use Rattle.one_to_one.proofs.Answers.{refused, answered}
 use Rattle.one_to_one.proofs.one_to_one.Goals.{Else-not-is_canonical}
@@ -19,4 +19,4 @@ first_failure-requires c = record { canonical = own (goal.at.first_failure-requi
 
 pub returns : goal.returns
 returns c =
-    c.first_failure.ensures ∙ sym (answered c.args.image.now (own (goal.at.returns c).Else-not-is_canonical))
+    ap value c.first_failure.ensures ∙ sym (answered c.args.image.now (own (goal.at.returns c).Else-not-is_canonical))

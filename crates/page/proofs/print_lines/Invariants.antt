@@ -1,20 +1,11 @@
--- `page::print_lines` meets its contract. Assumes nothing.
-use Prim.Native.Nat.{ℕ, ◌+◌, ◌*◌, ◌-◌, ◌≤◌}
-use mathlib.Core.Path.{◌≡◌}
-use mathlib.Core.List.{List}
-use lib.ListN.{length}
-use lib.Seq.{sets}
+-- `page::print_lines` meets its contract. The loop's invariant: with the lines that are left, the output is as the contract says.
+use Rattle.std.proofs.Common.{◌≡◌, ◌+◌, ◌*◌, ◌-◌}
+use Rattle.std.proofs.lemmas.List.Edits.{sets}
 use Rattle.reader.specs.Naming.{name_given}
 use Rattle.page.specs.Page.{lines}
 use Rattle.page.proofs.print_lines.Given as goal
 
-pub record Inv (out₀ image : List ℕ) (first count : ℕ) (out : List ℕ) (i : ℕ) : Type 0 where
-  pub inside : i ≤ count
-  pub out_length : length out ≡ length out₀
-  pub whole : sets out (45 * i) (lines (name_given image) (first + i) (count - i)) ≡ sets out₀ 0 (lines (name_given image) first count)
-
 abbrev pub invariant-loop-i : goal.invariant-loop-i
-invariant-loop-i l = Inv l.initial.out l.image l.first l.count l.out l.i
-
-abbrev pub decreases-loop-i : goal.decreases-loop-i
-decreases-loop-i l = l.count - l.i
+invariant-loop-i l =
+    sets l.out (45 * l.i) (lines (name_given l.image) (l.first + l.i) (l.count - l.i))
+    ≡ sets l.initial.out 0 (lines (name_given l.image) l.first l.count)

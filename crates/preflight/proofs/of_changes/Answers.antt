@@ -1,54 +1,31 @@
--- `preflight::of_changes` meets its contract. By the answers of its calls. Assumes nothing.
-use mathlib.Core.Path.{◌≡◌, sym, ◌∙◌}
-use mathlib.Core.Bool.{true}
-use Rattle.preflight.specs.Verdicts.{is_whole}
-use Rattle.preflight.specs.Exchanges.{some_kept_in}
+-- `preflight::of_changes` meets its contract, by the questions that led to each return. Assumes nothing.
+use Rattle.std.proofs.Common.{sym}
 use Rattle.preflight.proofs.Answers.{changes_refused, changes_unlike, changes_renamed, changes_taken}
-use Rattle.preflight.proofs.of_changes.Goals.{After-first_renamed, After-some_kept}
 use Rattle.preflight.proofs.of_changes.Goals as goal
-
-whole : (c : After-some_kept) → is_whole c.args.old.now ≡ true
-whole c =
-    let w = c.is_whole in
-    sym w.ensures ∙ c.if-not-is_whole.false
-
-alike : (c : After-first_renamed) → let a = c.args in some_kept_in a.old.now a.new.now ≡ true
-alike c =
-    let k = c.some_kept in
-    sym k.ensures ∙ c.if-not-some_kept.false
 
 pub returns-then-not-is_whole : goal.returns-then-not-is_whole
 returns-then-not-is_whole c =
-    let w = c.is_whole in
-    let a = c.args in
-    changes_refused a.old.now a.new.now a.round.now a.accepted.now (sym w.ensures ∙ c.if-not-is_whole.true)
+    let a = c.args in changes_refused a.old.now a.new.now a.round.now a.accepted.now (sym c.if-not-is_whole.ensures)
 
 pub returns-then-not-some_kept : goal.returns-then-not-some_kept
 returns-then-not-some_kept c =
-    let k = c.some_kept in
     let a = c.args in
-    changes_unlike a.old.now a.new.now a.round.now a.accepted.now (whole (goal.at.returns-then-not-some_kept c).After-some_kept)
-    (sym k.ensures ∙ c.if-not-some_kept.true)
+    changes_unlike a.old.now a.new.now a.round.now a.accepted.now (sym c.if-not-is_whole.ensures) (sym c.if-not-some_kept.ensures)
 
-pub returns-in-At : goal.returns-in-At
-returns-in-At c =
+pub returns-in-Some : goal.returns-in-Some
+returns-in-Some c =
     let a = c.args in
-    let at = goal.at.returns-in-At c in
-    changes_renamed a.old.now a.new.now a.round.now a.accepted.now (whole at.After-some_kept) (alike at.After-first_renamed) _
-    (sym c.in-At.is ∙ c.first_renamed.ensures)
+    changes_renamed a.old.now a.new.now a.round.now a.accepted.now (sym c.if-not-is_whole.ensures) (sym c.if-not-some_kept.ensures) _
+    c.in-Some.ensures
 
-pub returns-in-By : goal.returns-in-By
-returns-in-By c =
+pub returns-in-Some-first_taken : goal.returns-in-Some-first_taken
+returns-in-Some-first_taken c =
     let a = c.args in
-    let at = goal.at.returns-in-By c in
-    changes_taken a.old.now a.new.now a.round.now a.accepted.now (whole at.After-some_kept) (alike at.After-first_renamed) _
-    (sym c.in-Nothing.is ∙ c.first_renamed.ensures)
-    (sym c.in-By.is ∙ c.first_taken.ensures)
+    changes_taken a.old.now a.new.now a.round.now a.accepted.now (sym c.if-not-is_whole.ensures) (sym c.if-not-some_kept.ensures) _
+    c.in_default.ensures c.in-Some-first_taken.ensures
 
-pub returns-in-Nothing-first_taken : goal.returns-in-Nothing-first_taken
-returns-in-Nothing-first_taken c =
+pub returns : goal.returns
+returns c =
     let a = c.args in
-    let at = goal.at.returns-in-Nothing-first_taken c in
-    changes_taken a.old.now a.new.now a.round.now a.accepted.now (whole at.After-some_kept) (alike at.After-first_renamed) _
-    (sym c.in-Nothing.is ∙ c.first_renamed.ensures)
-    (sym c.in-Nothing-first_taken.is ∙ c.first_taken.ensures)
+    changes_taken a.old.now a.new.now a.round.now a.accepted.now (sym c.if-not-is_whole.ensures) (sym c.if-not-some_kept.ensures) _
+    c.in_default.ensures c.in_default-first_taken.ensures

@@ -1,27 +1,18 @@
--- `preflight::of_round` meets its contract. By the answers of its two calls. Assumes nothing.
-use mathlib.Core.Path.{sym, ◌∙◌}
-use Rattle.reader.specs.Naming.{name_given}
+-- `preflight::of_round` meets its contract, by the questions that led to each return. Assumes nothing.
+use Rattle.std.proofs.Common.{sym}
+use borrow.Author.Tests.{eqb-true, eqb-false}
 use Rattle.preflight.proofs.Answers.{round_empty, round_nameless, round_shared}
 use Rattle.preflight.proofs.of_round.Goals as goal
 
-pub returns-then-round-eq0 : goal.returns-then-round-eq0
-returns-then-round-eq0 c =
-    let a = c.args in
-    round_empty (name_given a.new.now) a.round.now c.if-round-eq0.true
+pub returns-then-is_empty : goal.returns-then-is_empty
+returns-then-is_empty c = round_empty _ _ (eqb-true _ 0 (sym c.if-is_empty.ensures))
 
-pub returns-in-At : goal.returns-in-At
-returns-in-At c =
-    let a = c.args in
-    round_nameless (name_given a.new.now) a.round.now c.if-round-eq0.false _ (sym c.in-At.is ∙ c.first_nameless.ensures)
+pub returns-in-Some : goal.returns-in-Some
+returns-in-Some c = round_nameless _ _ (eqb-false _ 0 (sym c.if-is_empty.ensures)) _ c.in-Some.ensures
 
-pub returns-in-Places : goal.returns-in-Places
-returns-in-Places c =
-    let a = c.args in
-    round_shared (name_given a.new.now) a.round.now c.if-round-eq0.false _ (sym c.in-Nothing.is ∙ c.first_nameless.ensures)
-    (sym c.in-Places.is ∙ c.first_shared.ensures)
+pub returns-in-Some-first_shared : goal.returns-in-Some-first_shared
+returns-in-Some-first_shared c =
+    round_shared _ _ (eqb-false _ 0 (sym c.if-is_empty.ensures)) _ c.in_default.ensures c.in-Some-first_shared.ensures
 
-pub returns-in-Nothing-first_shared : goal.returns-in-Nothing-first_shared
-returns-in-Nothing-first_shared c =
-    let a = c.args in
-    round_shared (name_given a.new.now) a.round.now c.if-round-eq0.false _ (sym c.in-Nothing.is ∙ c.first_nameless.ensures)
-    (sym c.in-Nothing-first_shared.is ∙ c.first_shared.ensures)
+pub returns : goal.returns
+returns c = round_shared _ _ (eqb-false _ 0 (sym c.if-is_empty.ensures)) _ c.in_default.ensures c.in_default-first_shared.ensures

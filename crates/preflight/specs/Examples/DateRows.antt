@@ -3,8 +3,8 @@ use Rattle.std.specs.Prelude.{ℕ, ◌≡◌, List, [], ◌∷◌}
 use Rattle.validity.specs.declared.Date.{Date}
 use Rattle.validity.specs.declared.Window.{Window}
 use Rattle.preflight.specs.Dates.{preflight_dates, windows_in}
-use Rattle.preflight.specs.declared.dates.DatesAnswer.{DatesAnswer}
-use Rattle.preflight.specs.declared.dates.DatesAnswer.TheVariants.{Yes, Refused, Outside}
+use Rattle.preflight.specs.Answers.DatesAnswer.{DatesAnswer}
+use Rattle.preflight.specs.Answers.DatesAnswer.{Yes, Refused, Outside}
 
 pub record DatesRow : Type 0 where
   pub windows : List Window

@@ -5,11 +5,11 @@ use Rattle.image.specs.declared.Mode.TheVariants.{Twoway, Oneway}
 use Rattle.writer.specs.Put.{entry_of}
 use Rattle.sheet.specs.Format.{sheet_bytes}
 use Rattle.preflight.specs.Preflight.{preflight, preflight_first}
-use Rattle.preflight.specs.declared.Answer.{Answer}
-use Rattle.preflight.specs.declared.Verdict.{Verdict}
-use Rattle.preflight.specs.declared.Verdict.TheVariants.{Yes, NewRefused, SheetRefused, OffSheet, EmptyRound}
-use Rattle.preflight.specs.declared.Verdict.TheVariants.{Nameless, OneName, OldRefused, NothingAlike, Renamed}
-use Rattle.preflight.specs.declared.Verdict.TheVariants.{NameTaken}
+use Rattle.preflight.specs.Answers.Answer.{Answer}
+use Rattle.preflight.specs.Answers.Verdict.{Verdict}
+use Rattle.preflight.specs.Answers.Verdict.{Yes, NewRefused, SheetRefused, OffSheet, EmptyRound}
+use Rattle.preflight.specs.Answers.Verdict.{Nameless, OneName, OldRefused, NothingAlike, Renamed}
+use Rattle.preflight.specs.Answers.Verdict.{NameTaken}
 
 -- the puts of the old and the new catalogue
 pub record PreflightRow : Type 0 where

@@ -1,12 +1,7 @@
 -- What the functions that count promise, by name.
-use Rattle.std.specs.Prelude.{ℕ, ◌*◌, ◌≤◌, ◌≡◌, Bool, cond, List, length}
+use Rattle.std.specs.Prelude.{ℕ, ◌*◌, ◌≤◌, ◌≡◌, Bool, List, length}
 use Rattle.sheet.specs.SheetReading.{ids_in}
 use Rattle.preflight.specs.Ids.{passing}
-
--- 1 where it is so, else 0
-pub record OneOf (t : Bool) (r : ℕ) : Type 0 where
-  pub is : r ≡ cond t 1 0
-  pub most : r ≤ 1
 
 -- how many ids of a list pass a test
 pub record Tallied (test : ℕ → Bool) (xs : List ℕ) (r : ℕ) : Type 0 where

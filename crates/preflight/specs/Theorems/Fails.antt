@@ -9,10 +9,10 @@ use Rattle.sheet.specs.Format.{Lists}
 use Rattle.sheet.specs.SheetReading.{read_lists}
 use Rattle.preflight.specs.Ids.{count}
 use Rattle.preflight.specs.Verdicts.{verdict}
-use Rattle.preflight.specs.declared.Verdict.{Verdict}
-use Rattle.preflight.specs.declared.Verdict.TheVariants.{Yes, NewRefused, SheetRefused, OffSheet, EmptyRound}
-use Rattle.preflight.specs.declared.Verdict.TheVariants.{Nameless, OneName, OldRefused, NothingAlike, Renamed}
-use Rattle.preflight.specs.declared.Verdict.TheVariants.{NameTaken}
+use Rattle.preflight.specs.Answers.Verdict.{Verdict}
+use Rattle.preflight.specs.Answers.Verdict.{Yes, NewRefused, SheetRefused, OffSheet, EmptyRound}
+use Rattle.preflight.specs.Answers.Verdict.{Nameless, OneName, OldRefused, NothingAlike, Renamed}
+use Rattle.preflight.specs.Answers.Verdict.{NameTaken}
 use Rattle.preflight.specs.Theorems.Asked.{In, Whole, OnSheet, EachNamed, SomeAlike, NotRenamed}
 use Rattle.preflight.specs.Theorems.Asked.{MayLeaveFirst, MayLeave}
 

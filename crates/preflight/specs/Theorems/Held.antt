@@ -7,7 +7,7 @@ use Rattle.validity.specs.declared.Date.{Date}
 use Rattle.validity.specs.declared.Window.{Window}
 use Rattle.preflight.specs.Dates.{holds_both, preflight_dates}
 use Rattle.preflight.specs.Theorems.Asked.{In}
-use Rattle.preflight.specs.declared.dates.DatesAnswer.TheVariants.{Yes, Refused}
+use Rattle.preflight.specs.Answers.DatesAnswer.{Yes, Refused}
 
 -- a window of the id holds a date: the first date included, the end date not
 pub record Holds (id : ℕ) (date : Date) (w : Window) : Type 0 where

@@ -17,9 +17,9 @@ use Rattle.preflight.specs.OnSheet.{of_sheet}
 use Rattle.preflight.specs.Verdicts.{and_then, of_round, of_names}
 use Rattle.preflight.specs.Counts.{compared_in, added_in, unsighted_in}
 use Rattle.preflight.specs.Preflight.{answer_of, preflight_first, preflight}
-use Rattle.preflight.specs.declared.Answer.{Answer}
-use Rattle.preflight.specs.declared.Verdict.{Verdict}
-use Rattle.preflight.specs.declared.Verdict.TheVariants.{Yes, NewRefused, OldRefused, NothingAlike}
+use Rattle.preflight.specs.Answers.Answer.{Answer}
+use Rattle.preflight.specs.Answers.Verdict.{Verdict}
+use Rattle.preflight.specs.Answers.Verdict.{Yes, NewRefused, OldRefused, NothingAlike}
 use Rattle.preflight.specs.Theorems.Asked.{In, Whole, SomeAlike, MayLeaveFirst, MayLeave, Exchanged, Cycle}
 use Rattle.preflight.specs.Theorems.Asked.{OneIdEach, Fresh}
 

@@ -21,8 +21,9 @@ pub record BucketAfterPre (h c n : ℕ) : Type 0 where
   pub some : 0 < n
   pub small : h / 256 + c < 4294967296
 
--- r is the place, counted from 1, of the first 0 of three numbers; a place of 0 promises nothing
+-- r is the place, counted from 1, of the first 0 of three numbers
 pub record FirstZero (x y z r : ℕ) : Type 0 where
+  pub some : 0 < r
   pub few : r < 4
   pub first : r ≡ 1 → x ≡ 0
   pub second : r ≡ 2 → (0 < x) × (y ≡ 0)

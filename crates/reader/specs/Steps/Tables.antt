@@ -1,6 +1,5 @@
 -- What the pass over the head's 256 rows promises when an image is opened.
-use Rattle.std.specs.Prelude.{◌≡◌, ℕ, ◌+◌, ◌*◌, ◌/◌, ◌%◌, ◌^◌, ◌<◌, ◌≤◌, false, List, length}
-use Rattle.image.specs.Image.{head_size}
+use Rattle.std.specs.Prelude.{◌≡◌, ℕ, ◌+◌, ◌*◌, ◌/◌, ◌%◌, ◌^◌, ◌<◌, ◌≤◌, false, List}
 use Rattle.reader.specs.Open.{some_past_end, num_from}
 use Rattle.reader.specs.declared.opening.TableSums.{TableSums}
 
@@ -18,8 +17,3 @@ pub record TableAdded (all : TableSums) (size o n : ℕ) (r : TableSums) : Type 
 pub record AllTables (image : List ℕ) (r : TableSums) : Type 0 where
   pub num_is : r.num ≡ num_from image 0 256 % 2 ^ 32
   pub none_past_end : r.slacks < 2 ^ 63 → some_past_end image 0 256 ≡ false
-
--- the head is there, and where the bitwise or of all slacks is below 2^63, no table reaches past the end of the image
-pub record SomePastEndPre (image : List ℕ) (slacks : ℕ) : Type 0 where
-  pub head : head_size ≤ length image
-  pub none_past_end : slacks < 2 ^ 63 → some_past_end image 0 256 ≡ false

@@ -7,7 +7,7 @@ use Rattle.image.specs.Tables.{table_of, start, probe_sequence}
 use Rattle.image.specs.Head.{table_at, bucket_number}
 use Rattle.image.specs.Stored.{name_at, broken}
 use Rattle.reader.specs.Lookup.{found, lookup}
-use Rattle.reader.specs.declared.Found.{Found}
+use Rattle.reader.specs.Lookup.{Found}
 
 -- the bucket that a search for a name in its table of n buckets reads as the m-th, counted from 1
 abbrev pub bucket_read : List ℕ → ℕ → ℕ → ℕ

@@ -1,10 +1,5 @@
 -- What the functions of the head ask of their callers and promise, by name.
-use Rattle.std.specs.Prelude.{◌≡◌, ℕ, ◌<◌, ◌≤◌, List, length}
-
--- r is the word x
-pub record AsU64 (x r : ℕ) : Type 0 where
-  pub is : r ≡ x
-  pub small : r < 4294967296
+use Rattle.std.specs.Prelude.{ℕ, ◌≤◌, List, length}
 
 -- the bytes between two places, which lie in the buffer
 pub record ClearBytesPre (buf : List ℕ) (from to : ℕ) : Type 0 where

@@ -1,34 +1,16 @@
--- `validity::part_by_state` meets its contract, by the date and the cases of what the windows say.
-use mathlib.Core.Path.{sym, ◌∙◌}
-use Rattle.reader.specs.Slices.{slice}
-use Rattle.validity.proofs.WindowTests.{no_date_part, by_state_part}
+-- `validity::part_by_state` meets its contract. Assumes nothing.
+use Rattle.std.proofs.Common.{arith, sym, rules}
+use Rattle.validity.proofs.WindowTests.{part_inside}
 use Rattle.validity.proofs.part_by_state.Goals as goal
 
-pub returns-then-not-is_date : goal.returns-then-not-is_date
-returns-then-not-is_date c =
+pub overflow_add-result : goal.overflow_add-result
+overflow_add-result c =
     let a = c.args in
-    no_date_part (slice a.image) a.id a.date a.s (sym c.is_date.ensures ∙ c.if-not-is_date.true)
+    let inside = part_inside a.image.now a.id a.date a.s _ _ (sym (rw c.in-Ok-Some.field-0-is at c.in-Ok-Some.ensures)) in
+    omega (arith, inside)
 
-pub returns-in-Inactive : goal.returns-in-Inactive
-returns-in-Inactive c =
+pub slice_bounds-result-end : goal.slice_bounds-result-end
+slice_bounds-result-end c =
     let a = c.args in
-    by_state_part (slice a.image) a.id a.date a.s _ (sym c.is_date.ensures ∙ c.if-not-is_date.false)
-    c.in-Inactive.is
-
-pub returns-in-Active : goal.returns-in-Active
-returns-in-Active c =
-    let a = c.args in
-    c.name.ensures ∙ by_state_part (slice a.image) a.id a.date a.s _ (sym c.is_date.ensures ∙ c.if-not-is_date.false)
-    c.in-Active.is
-
-pub returns-in-Inverted : goal.returns-in-Inverted
-returns-in-Inverted c =
-    let a = c.args in
-    by_state_part (slice a.image) a.id a.date a.s _ (sym c.is_date.ensures ∙ c.if-not-is_date.false)
-    c.in-Inverted.is
-
-pub returns-in-InvalidDate : goal.returns-in-InvalidDate
-returns-in-InvalidDate c =
-    let a = c.args in
-    by_state_part (slice a.image) a.id a.date a.s _ (sym c.is_date.ensures ∙ c.if-not-is_date.false)
-    c.in-InvalidDate.is
+    let inside = part_inside a.image.now a.id a.date a.s _ _ (sym (rw c.in-Ok-Some.field-0-is at c.in-Ok-Some.ensures)) in
+    search (rules, inside)

@@ -2,34 +2,20 @@
 -- Assumes nothing.
 use Prim.Native.Nat.{ℕ, ◌+◌}
 use native.Mathlib.Omega.{arith}
-use mathlib.Core.Path.{refl, sym, subst, ◌∙◌}
+use mathlib.Core.Path.{sym, subst, ◌∙◌}
 use mathlib.Core.List.{List}
+use lib.ListN.{length}
 use Rattle.batch.proofs.AnswerPlaces.{Copied, copied_step}
 use Rattle.batch.proofs.answering.copy_duplicates.Goals as goal
-
-pub loop-i-init : goal.loop-i-init
-loop-i-init c =
-    record {
-      inside = omega arith;
-      long = refl;
-      copied = λ image xs u. record { passed = λ j h. absurd (omega arith); unique = u.have_answers };
-    }
-
-pub overflow_cast-equals : goal.overflow_cast-equals
-overflow_cast-equals c = omega (arith, c.requires.earlier c.loop-i.i c.loop-i-test.true)
-
-pub source-from-requires : goal.source-from-requires
-source-from-requires c = omega (arith, c.requires.earlier c.loop-i.i c.loop-i-test.true)
 
 pub loop-i-preserved : goal.loop-i-preserved
 loop-i-preserved c =
     let a = c.args in
     let more = c.loop-i-test.true in
     record {
-      inside = omega (arith, more);
       long = c.copy_answer.auto.answers ∙ c.loop-i.invariant.long;
       copied = λ image xs u.
-          subst (λ (r : List ℕ). Copied image xs a.equals.now r a.n (c.loop-i.i + 1)) (sym c.copy_answer.ensures)
+          subst (λ (r : List ℕ). Copied image xs a.equals.now r (length a.equals.now) (c.loop-i.i + 1)) (sym c.copy_answer.ensures)
           (copied_step u c.source-from.ensures more (omega (arith, c.requires.places, c.loop-i.invariant.long)) (c.loop-i.invariant.copied image xs u));
     }
 

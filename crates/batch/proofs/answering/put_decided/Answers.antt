@@ -11,9 +11,9 @@ use Rattle.batch.proofs.answering.put_decided.Goals.{After-probe_entry}
 use Rattle.batch.proofs.answering.put_decided.Goals as goal
 
 -- what the entry says decides
-decided : (c : After-probe_entry) (s : Probe) → s ≡ probe_entry c.args.image.now c.args.name.now c.args.offset
+by_entry : (c : After-probe_entry) (s : Probe) → s ≡ probe_entry c.args.image.now c.args.name.now c.args.offset
     → let a = c.args in decide s a.c (search_from a.image.now a.name.now a.h a.c) ≡ lookup_by a.image.now a.name.now a.h
-decided c = entry_decides c.requires.decided c.args.name.now c.requires.short (omega (arith, c.if-offset-eq0.false))
+by_entry c = entry_decides c.requires.decided c.args.name.now c.requires.short (omega (arith, c.if-offset-eq0.false))
 
 pub returns-then-offset-eq0 : goal.returns-then-offset-eq0
 returns-then-offset-eq0 c =
@@ -36,12 +36,12 @@ returns-in-Ends c =
     let a = c.args in
     c.put_words-in-Ends.ensures
     ∙ ap (λ (x : Lookup). put_words a.answers.now a.i (answer_words x))
-    (decided (goal.at.returns-in-Ends c).After-probe_entry ends (sym (ap probe_of c.in-Ends.is) ∙ c.probe_entry.ensures))
+    (by_entry (goal.at.returns-in-Ends c).After-probe_entry ends (sym (ap probe_of c.in-Ends.is) ∙ c.probe_entry.ensures))
 
 pub returns-in-Hit : goal.returns-in-Hit
 returns-in-Hit c =
     let a = c.args in
     c.put_words-in-Hit.ensures
     ∙ ap (λ (x : Lookup). put_words a.answers.now a.i (answer_words x))
-    (decided (goal.at.returns-in-Hit c).After-probe_entry (hit (record { id = c.in-Hit.hit.id; offset = c.in-Hit.hit.offset }))
+    (by_entry (goal.at.returns-in-Hit c).After-probe_entry (hit (record { id = c.in-Hit.hit.id; offset = c.in-Hit.hit.offset }))
     (sym (ap probe_of c.in-Hit.is) ∙ c.probe_entry.ensures))

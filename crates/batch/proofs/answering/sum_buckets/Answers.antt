@@ -5,15 +5,11 @@ use Rattle.batch.proofs.UniqueSums.{sum_start, sum_step, sum_end}
 use Rattle.batch.proofs.answering.sum_buckets.Goals as goal
 
 pub loop-i-init : goal.loop-i-init
-loop-i-init c = record { inside = omega arith; small = omega arith; whole = λ image xs u. sum_start image xs }
-
-pub overflow_add-sum : goal.overflow_add-sum
-overflow_add-sum c = omega (arith, c.if_zero.type_inv)
+loop-i-init c = record { small = omega arith; whole = λ image xs u. sum_start image xs }
 
 pub loop-i-preserved : goal.loop-i-preserved
 loop-i-preserved c =
     record {
-      inside = omega arith;
       small = omega (arith, c.if_zero.type_inv, c.loop-i.invariant.small);
       whole = λ image xs u.
           sum_step u c.loop-i.i c.loop-i.sum c.if_zero.result (omega arith) c.if_zero.ensures.own

@@ -1,7 +1,7 @@
 -- `batch::naming::name_all` meets its contract. The loop's invariant: the places passed hold their words. Assumes nothing.
 use Prim.Native.Nat.{ℕ}
 use native.Mathlib.Omega.{arith}
-use mathlib.Core.Path.{refl, sym, ap, subst, ◌∙◌}
+use mathlib.Core.Path.{sym, ap, subst, ◌∙◌}
 use mathlib.Core.List.{List}
 use lib.ListN.{get_or}
 use Rattle.reader.specs.Naming.{Naming, naming}
@@ -12,18 +12,9 @@ use Rattle.batch.proofs.AnswerPlaces.{has_after}
 use Rattle.batch.proofs.PlaceWords.{all_places}
 use Rattle.batch.proofs.naming.name_all.Goals as goal
 
-pub loop-i-init : goal.loop-i-init
-loop-i-init c = record { inside = omega arith; long = refl; stored = λ j h. absurd (omega arith) }
-
-pub put_place-requires : goal.put_place-requires
-put_place-requires c =
-    record {
-      inside = omega (arith, c.requires, c.loop-i.invariant.long, c.loop-i-test.true);
-      short =
-          rw c.to_str.ensures
-          (naming_small c.args.image.now (get_or c.args.ids.now c.loop-i.i 0)
-          (λ (i : ℕ). omega (arith, c.type_inv.image i)));
-    }
+pub put_place-requires-clause-short : goal.put_place-requires-clause-short
+put_place-requires-clause-short c =
+    rw c.to_str.ensures (naming_small c.args.image.now (get_or c.args.ids.now c.loop-i.i 0) (λ (i : ℕ). omega (arith, c.type_inv.image i)))
 
 pub loop-i-preserved : goal.loop-i-preserved
 loop-i-preserved c =

@@ -6,7 +6,7 @@ use mathlib.Core.Bool.{true, false}
 use mathlib.Core.List.{List, ◌++◌}
 use Prim.Native.Nat.{ℕ}
 use borrow.Author.Tests.{lt-ltb, le-ltb}
-use lib.ListN.{length, drop, length-take}
+use lib.ListN.{length, drop}
 use Rattle.batch.proofs.PlaceWords.{refusal_by, names_left, names_stored}
 use Rattle.batch.proofs.naming.name_round.Goals as goal
 
@@ -23,12 +23,6 @@ returns-then-answers-n c =
     let places = length a.answers.now / 4 in
     let e = refusal_by ids places false true (le-ltb 512 (length ids) c.if-n-gt-MOST_NAMES.false) (lt-ltb places (length ids) c.if-answers-n.true) in
     record { answer = e; leaves = names_left a.image.now ids a.answers.now 15 e (omega arith) }
-
-pub slice_bounds-name_all-end-2 : goal.slice_bounds-name_all-end-2
-slice_bounds-name_all-end-2 c = simp length-take (omega (arith, c.if-answers-n.false))
-
-pub name_all-requires : goal.name_all-requires
-name_all-requires c = simp length-take (omega (arith, c.if-answers-n.false))
 
 pub returns : goal.returns
 returns c =

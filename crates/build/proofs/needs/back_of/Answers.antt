@@ -1,11 +1,14 @@
 -- `build::needs::back_of` meets its contract: the largest id plus 1 is the back size. Assumes nothing.
-use Prim.Native.Nat.{◌+◌, ◌^◌, ◌≤◌}
-use native.Mathlib.Omega.{arith}
+use Rattle.std.proofs.Common.{◌+◌, ◌^◌, ◌≤◌, length, sym, arith}
+use borrow.Author.Tests.{eqb-true, eqb-false}
 use Rattle.build.proofs.Needed.{no_back}
 use Rattle.build.proofs.needs.back_of.Goals as goal
 
-pub returns-then-ids-eq0 : goal.returns-then-ids-eq0
-returns-then-ids-eq0 c = record { is = no_back c.args.ids.now c.if-ids-eq0.true; bound = omega arith }
+pub returns-then-is_empty : goal.returns-then-is_empty
+returns-then-is_empty c = record { is = no_back c.args.ids.now (eqb-true (length c.args.ids.now) 0 (sym c.if-is_empty.ensures)); bound = omega arith }
+
+pub largest-requires : goal.largest-requires
+largest-requires c = omega (arith, eqb-false (length c.args.ids.now) 0 (sym c.if-is_empty.ensures))
 
 pub returns : goal.returns
 returns c =

@@ -19,7 +19,7 @@ pub returns : goal.returns
 returns c =
     let a = c.args in
     let back = c.back_in-back in
-    let each = c.bytes_each-entries in
-    let first = c.sum in
-    whole_sum a.mode a.size a.ids.now back.result each.result first.result c.sum-2.result
-    (back.ensures ∙ ap (back_in a.mode) c.back_of.ensures.is) each.ensures first.ensures c.sum-2.ensures
+    let each = c.saturating_mul-entries in
+    let first = c.saturating_add-front in
+    whole_sum a.mode a.size a.ids.now back.result each.result first.result c.saturating_add.result
+    (back.ensures ∙ ap (back_in a.mode) c.back_of.ensures.is) each.ensures first.ensures c.saturating_add.ensures

@@ -1,6 +1,5 @@
 -- `bundle::walking::count` meets its contract. Assumes nothing.
-use Prim.Native.Nat.{◌-◌}
-use lib.ListN.{length}
+use Rattle.std.proofs.Common.{◌-◌, length}
 use Rattle.bundle.specs.FileWalk.{counting}
 use Rattle.bundle.proofs.FileWalks.{Counting}
 use Rattle.bundle.proofs.walking.count.Given as goal

@@ -1,31 +1,17 @@
 -- `bundle::walking::part` meets its contract. Assumes nothing.
-use native.Mathlib.Omega.{arith}
-use mathlib.Core.Path.{sym, ap, ◌∙◌}
+use Rattle.std.proofs.Common.{sym, arith}
 use Rattle.reader.specs.Slices.{slice}
-use Rattle.bundle.specs.Cases.{placed_of}
 use Rattle.bundle.proofs.ImagePlaces.{place_inside, part_there, no_part}
 use Rattle.bundle.proofs.walking.part.Goals as goal
 
 pub overflow_add-result : goal.overflow_add-result
-overflow_add-result c =
-    let a = c.args in
-    let told = sym c.place.ensures ∙ ap placed_of c.in-Image.is in
-    omega (arith, place_inside a.file.now a.position c.in-Image.start c.in-Image.size told)
+overflow_add-result c = omega (arith, place_inside c.args.file.now c.args.position c.in-Ok.p.start c.in-Ok.p.size (sym c.in-Ok.ensures))
 
 pub slice_bounds-result-end : goal.slice_bounds-result-end
-slice_bounds-result-end c =
-    let a = c.args in
-    let told = sym c.place.ensures ∙ ap placed_of c.in-Image.is in
-    omega (arith, place_inside a.file.now a.position c.in-Image.start c.in-Image.size told)
+slice_bounds-result-end c = omega (arith, place_inside c.args.file.now c.args.position c.in-Ok.p.start c.in-Ok.p.size (sym c.in-Ok.ensures))
 
-pub returns-in-Image : goal.returns-in-Image
-returns-in-Image c =
-    let a = c.args in
-    let told = sym c.place.ensures ∙ ap placed_of c.in-Image.is in
-    part_there (slice a.file) a.position c.in-Image.start c.in-Image.size told
+pub returns-in-Ok : goal.returns-in-Ok
+returns-in-Ok c = part_there (slice c.args.file) c.args.position c.in-Ok.p.start c.in-Ok.p.size (sym c.in-Ok.ensures)
 
-pub returns-in-Refused : goal.returns-in-Refused
-returns-in-Refused c =
-    let a = c.args in
-    let of_place = c.place in
-    no_part (slice a.file) a.position c.in-Refused.field-0 (sym of_place.ensures ∙ ap placed_of c.in-Refused.is)
+pub returns-in-Err : goal.returns-in-Err
+returns-in-Err c = no_part (slice c.args.file) c.args.position _ (sym c.in-Err.ensures)

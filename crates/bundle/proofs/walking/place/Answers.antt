@@ -1,62 +1,59 @@
 -- `bundle::walking::place` meets its contract. Assumes nothing.
-use Prim.Native.Nat.{ℕ}
-use native.Mathlib.Omega.{arith}
-use mathlib.Core.Path.{◌≡◌, refl, sym, ap, ◌∙◌}
-use lib.ListN.{length}
+use Rattle.std.proofs.Common.{◌≡◌, ◌+◌, ◌-◌, ℕ, sym, ap, ◌∙◌, arith}
+use Rattle.std.proofs.lemmas.Result.{err_from_is_err_and}
 use Rattle.jhash.specs.Outcome.{value}
 use Rattle.bundle.specs.FileWalk.{place_from, place_of_image}
-use Rattle.bundle.proofs.FileSteps.{ImageThere, none_there, some_there}
-use Rattle.bundle.proofs.FileWalks.{place_broke, place_ended, place_here, place_turn}
-use Rattle.bundle.proofs.walking.place.Goals.{Else-size-eq0}
+use Rattle.bundle.proofs.FileSteps.{there}
+use Rattle.bundle.proofs.FileWalks.{place_refused, place_here, place_turn}
 use Rattle.bundle.proofs.walking.place.Goals as goal
 
-pub loop-at-init : goal.loop-at-init
-loop-at-init c = record { inside = omega arith; rest = refl }
+pub loop-init : goal.loop-init
+loop-init c = record {
+  inside = omega arith;
+  rest = let all : c.args.position - 0 ≡ c.args.position = omega arith in ap (place_from c.args.file.now 0) all;
+}
 
-pub image_size_at-size-requires : goal.image_size_at-size-requires
-image_size_at-size-requires c = c.loop-at.invariant.inside
+pub image_size_at-requires : goal.image_size_at-requires
+image_size_at-requires c = c.loop.invariant.inside
 
-pub returns-then-size-eq0 : goal.returns-then-size-eq0
-returns-then-size-eq0 c =
-    let size = c.image_size_at-size in
-    let there = none_there c.args.file.now c.loop-at.at size.result size.ensures c.if-size-eq0.true in
-    sym (place_broke c.args.file.now c.loop-at.at c.loop-at.left (λ e. omega arith) there) ∙ c.loop-at.invariant.rest
+pub overflow_add-start : goal.overflow_add-start
+overflow_add-start c =
+    let image = there c.args.file.now c.loop.start c.in_ok-start.field-0 c.in_ok-start.ensures in
+    omega (arith, image.begins.inside, image.size_is)
 
--- the image that the walk has come to
-there : (c : Else-size-eq0) → ImageThere c.args.file.now c.loop-at.at c.image_size_at-size.result
-there c =
-    let size = c.image_size_at-size in
-    some_there c.args.file.now c.loop-at.at size.result size.ensures c.if-size-eq0.false
-
-pub returns-then-left-eq0 : goal.returns-then-left-eq0
-returns-then-left-eq0 c =
-    let image = there (goal.at.returns-then-left-eq0 c).Else-size-eq0 in
-    ap (λ (w : ℕ). value (record { start = c.loop-at.at; size = w })) (sym image.size_is)
-    ∙ sym (place_here c.args.file.now c.loop-at.at image.begins)
-    ∙ ap (place_from c.args.file.now c.loop-at.at) (sym c.if-left-eq0.true)
-    ∙ c.loop-at.invariant.rest
-
-pub overflow_sub-left : goal.overflow_sub-left
-overflow_sub-left c = omega arith
-
-pub overflow_add-at : goal.overflow_add-at
-overflow_add-at c = omega (arith, c.image_size_at-size.ensures.inside)
-
-pub loop-at-smaller : goal.loop-at-smaller
-loop-at-smaller c = omega (arith, c.image_size_at-size.ensures.inside)
-
-pub loop-at-preserved : goal.loop-at-preserved
-loop-at-preserved c =
-    let image = there (goal.at.loop-at-preserved c).Else-size-eq0 in
-    let size = c.image_size_at-size in
+pub loop-preserved : goal.loop-preserved
+loop-preserved c =
+    let f = c.args.file.now in
+    let size = c.in_ok-start.field-0 in
+    let left : ℕ = c.args.position - c.loop.counter in
+    let image = there f c.loop.start size c.in_ok-start.ensures in
+    let less : c.args.position - (c.loop.counter + 1) ≡ left - 1 = omega arith in
     record {
-      inside = size.ensures.inside;
+      inside = omega (arith, image.begins.inside, image.size_is);
       rest =
-          place_turn c.args.file.now c.loop-at.at size.result c.loop-at.left (place_of_image c.args.file.now c.args.position)
-          image.begins image.size_is c.if-left-eq0.false c.loop-at.invariant.rest;
+          ap (place_from f (c.loop.start + size)) less
+          ∙ place_turn f c.loop.start size left (place_of_image f c.args.position) image.begins image.size_is (λ z. omega arith)
+          c.loop.invariant.rest;
     }
+
+pub returns-in_err-start : goal.returns-in_err-start
+returns-in_err-start c =
+    let p = err_from_is_err_and c.from_residual.result c.from_residual.ensures.1 in
+    rw (p.1, p.2)
+    (sym (place_refused c.args.file.now c.loop.start _ (c.args.position - c.loop.counter) c.in_err-start.ensures) ∙ c.loop.invariant.rest)
+
+pub returns-in_err-size : goal.returns-in_err-size
+returns-in_err-size c =
+    let p = err_from_is_err_and c.from_residual-in_err-size.result c.from_residual-in_err-size.ensures.1 in
+    rw (p.1, p.2)
+    (sym (place_refused c.args.file.now c.loop.start _ (c.args.position - c.loop.counter) c.in_err-size.ensures) ∙ c.loop.invariant.rest)
 
 pub returns : goal.returns
 returns c =
-    let e : c.loop-at.at ≡ length c.args.file.now = omega (arith, c.loop-at.invariant.inside) in
-    sym (place_ended c.args.file.now c.loop-at.at c.loop-at.left e) ∙ c.loop-at.invariant.rest
+    let f = c.args.file.now in
+    let image = there f c.loop.start c.in_ok-size.size c.in_ok-size.ensures in
+    let none : 0 ≡ c.args.position - c.loop.counter = omega arith in
+    ap (λ (w : ℕ). value (record { start = c.loop.start; size = w })) (sym image.size_is)
+    ∙ sym (place_here f c.loop.start image.begins)
+    ∙ ap (place_from f c.loop.start) none
+    ∙ c.loop.invariant.rest

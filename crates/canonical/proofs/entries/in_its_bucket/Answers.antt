@@ -8,14 +8,13 @@ use Rattle.canonical.proofs.entries.in_its_bucket.Goals as goal
 
 pub returns-then-n-eq0 : goal.returns-then-n-eq0
 returns-then-n-eq0 c =
-    let n = c.bucket_number-n in
     let a = c.args in
-    bucket_none a.image.now a.h a.at n.result n.ensures.is c.if-n-eq0.true
+    bucket_none a.image.now a.h a.at c.of-table.result.buckets c.of-table.ensures.buckets.is c.if-n-eq0.true
 
 -- the table lies in the image, and the bucket that was found in it
-room : (c : Else-n-eq0) → c.table_at-o.result + 8 * c.bucket_number-n.result ≤ length c.args.image.now
+room : (c : Else-n-eq0) → c.of-table.result.offset + 8 * c.of-table.result.buckets ≤ length c.args.image.now
 room c =
-    table_room c.args.image.now c.args.h c.args.at c.requires c.table_at-o.ensures.is c.bucket_number-n.ensures.is
+    table_room c.args.image.now c.args.h c.args.at c.requires c.of-table.ensures.offset.is c.of-table.ensures.buckets.is
     c.if-n-eq0.false
 
 pub first_empty_before-k-requires : goal.first_empty_before-k-requires
@@ -27,7 +26,7 @@ word-requires c = omega (arith, room (goal.at.word-requires c).Else-n-eq0, c.fir
 pub returns-then-word-h : goal.returns-then-word-h
 returns-then-word-h c =
     let a = c.args in
-    bucket_other a.image.now a.h a.at c.table_at-o.ensures.is c.bucket_number-n.ensures.is c.if-n-eq0.false
+    bucket_other a.image.now a.h a.at c.of-table.ensures.offset.is c.of-table.ensures.buckets.is c.if-n-eq0.false
     c.start.ensures c.first_empty_before-k.ensures c.word.result c.word.ensures c.if-word-h.true
 
 pub word-requires-2 : goal.word-requires-2
@@ -37,6 +36,6 @@ word-requires-2 c =
 pub returns : goal.returns
 returns c =
     let a = c.args in
-    bucket_last a.image.now a.h a.at c.table_at-o.ensures.is c.bucket_number-n.ensures.is c.if-n-eq0.false
+    bucket_last a.image.now a.h a.at c.of-table.ensures.offset.is c.of-table.ensures.buckets.is c.if-n-eq0.false
     c.start.ensures c.first_empty_before-k.ensures c.word.result c.word.ensures c.word-2.result
     c.if-word-h.false c.word-2.ensures

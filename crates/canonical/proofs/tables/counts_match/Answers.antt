@@ -1,36 +1,14 @@
--- `canonical::tables::counts_match` meets its contract. Assumes nothing.
-use native.Mathlib.Omega.{arith}
-use borrow.Author.Tests.{eq-eqb, ne_eqb}
-use Prim.Native.Nat.{ℕ, ◌*◌}
-use mathlib.Core.Path.{refl, sym, ◌∙◌}
-use mathlib.Core.Bool.{Bool}
-use lib.ListN.{get_or}
-use lib.Dec.{eqb}
+-- `canonical::tables::counts_match` meets its contract: the chain's answer is that of the 256 rows. Assumes nothing.
+use Rattle.std.proofs.Common.{ℕ, ◌*◌, ◌∙◌, eqb, get_or, refl, rules, tests}
+use Rattle.std.proofs.lemmas.Iterator.{YieldsList-from_range}
+use Rattle.std.proofs.lemmas.Iterator.Search.{all_from_yields_List}
 use Rattle.image.specs.Head.{bucket_number}
-use Rattle.canonical.proofs.TableLoops.{all_fail, all_pass, all_passed}
-use Rattle.canonical.proofs.tables.counts_match.Goals.{At-loop-t}
+use Rattle.consistency.proofs.Panels.{all_of_range}
 use Rattle.canonical.proofs.tables.counts_match.Goals as goal
 
--- the test of a row
-abbrev matches : (c : At-loop-t) → ℕ → Bool
-matches c t = let a = c.args in eqb (bucket_number a.image.now t) (2 * get_or a.counts.now t 0)
-
-pub loop-t-init : goal.loop-t-init
-loop-t-init c = record { few = omega arith; same = refl }
-
-pub returns-then-table_buckets-buckets_for : goal.returns-then-table_buckets-buckets_for
-returns-then-table_buckets-buckets_for c =
-    all_fail (matches (goal.at.returns-then-table_buckets-buckets_for c).At-loop-t) c.loop-t.t c.loop-t-test.true
-    (ne_eqb _ _ (λ e. c.if-table_buckets-buckets_for.true (c.table_buckets.ensures.is ∙ e ∙ sym c.buckets_for.ensures))) c.loop-t.invariant.same
-
-pub loop-t-preserved : goal.loop-t-preserved
-loop-t-preserved c =
-    record {
-      few = omega (arith, c.loop-t-test.true);
-      same =
-          all_pass (matches (goal.at.loop-t-preserved c).At-loop-t) c.loop-t.t c.loop-t-test.true
-          (eq-eqb _ _ (sym c.table_buckets.ensures.is ∙ c.if-table_buckets-buckets_for.false ∙ c.buckets_for.ensures)) c.loop-t.invariant.same;
-    }
-
 pub returns : goal.returns
-returns c = all_passed (matches (goal.at.returns c).At-loop-t) c.loop-t.t (omega arith) c.loop-t.invariant.same
+returns c =
+    let a = c.args in
+    let matches = λ (t : ℕ). eqb (bucket_number a.image.now t) (2 * get_or a.counts.now t 0) in
+    all_from_yields_List matches _ _ c.all.result c.all.ensures.ran (YieldsList-from_range 0 256 256 refl refl) (λ x b q k. search (rules, tests))
+    ∙ all_of_range matches 256 0

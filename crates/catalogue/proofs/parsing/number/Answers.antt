@@ -1,43 +1,35 @@
--- `catalogue::parsing::number` meets its contract: what is still to be read makes of what was read the number of all. Assumes nothing.
-use native.Mathlib.Omega.{arith}
-use mathlib.Core.Path.{refl, sym, ◌∙◌}
-use Rattle.catalogue.proofs.Decimals.{digit_read_lem, number_end, bound_more, bound_fits}
+-- `catalogue::parsing::number` meets its contract. Assumes nothing.
+use Rattle.std.proofs.Common.{arith, refl, ◌≡◌, ◌+◌, ◌*◌, ◌-◌, get_or}
+use Rattle.catalogue.specs.Steps.Contracts.{TooLarge}
+use Rattle.catalogue.proofs.Decimals.{digit_read, reaches, number_end}
 use Rattle.catalogue.proofs.parsing.number.Goals as goal
 
-pub loop-i-init : goal.loop-i-init
-loop-i-init c = record { inside = omega arith; whole = refl; bound = omega arith }
+pub loop-b-init : goal.loop-b-init
+loop-b-init c = refl
 
-pub overflow_mul-v : goal.overflow_mul-v
-overflow_mul-v c =
-    let few = c.requires in
-    omega (arith, bound_fits c.loop-i.v 0 c.loop-i.i c.loop-i.invariant.bound (omega arith) (omega arith))
+pub returns-in_err-checked_mul : goal.returns-in_err-checked_mul
+returns-in_err-checked_mul c =
+    let low : TooLarge c.args.digits.now =
+    omega (arith, reaches _ _ c.loop-b.b-index c.loop-b.invariant c.loop-b-test.true, c.in_err-checked_mul.ensures) in
+    rw c.from_residual.ensures low
 
-pub bounds-digits-i : goal.bounds-digits-i
-bounds-digits-i c = omega arith
+pub returns-in_err-v : goal.returns-in_err-v
+returns-in_err-v c =
+    let low : TooLarge c.args.digits.now =
+    omega (
+      arith,
+      reaches _ _ c.loop-b.b-index c.loop-b.invariant c.loop-b-test.true,
+      c.in_err-v.ensures,
+      c.in_ok-checked_mul.ensures,
+      c.saturating_sub.ensures,
+    ) in
+    rw c.from_residual-in_err-v.ensures low
 
-pub overflow_add-v : goal.overflow_add-v
-overflow_add-v c =
-    let few = c.requires in
-    omega (arith, bound_fits c.loop-i.v c.digit.result c.loop-i.i c.loop-i.invariant.bound c.digit.ensures.bound (omega arith))
-
-pub overflow_add-i : goal.overflow_add-i
-overflow_add-i c = omega arith
-
-pub loop-i-smaller : goal.loop-i-smaller
-loop-i-smaller c = omega arith
-
-pub loop-i-preserved : goal.loop-i-preserved
-loop-i-preserved c =
-    let digits = c.args.digits.now in
-    let d = c.digit.result in
-    record {
-      inside = omega arith;
-      whole =
-          sym (digit_read_lem digits c.loop-i.v c.loop-i.i d c.loop-i-test.true c.digit.ensures.value)
-          ∙ c.loop-i.invariant.whole;
-      bound = bound_more c.loop-i.v d c.loop-i.i c.loop-i.invariant.bound c.digit.ensures.bound;
-    }
+pub loop-b-preserved : goal.loop-b-preserved
+loop-b-preserved c =
+    let read : c.in_ok-v.v ≡ c.loop-b.v * 10 + (get_or c.args.digits.now c.loop-b.b-index 0 - 48) =
+    omega (arith, c.in_ok-v.ensures, c.in_ok-checked_mul.ensures, c.saturating_sub.ensures) in
+    rw read (digit_read _ _ c.loop-b.b-index c.loop-b.invariant c.loop-b-test.true)
 
 pub returns : goal.returns
-returns c =
-    sym (number_end c.args.digits.now c.loop-i.v c.loop-i.i c.loop-i-test.false) ∙ c.loop-i.invariant.whole
+returns c = number_end _ _ c.loop-b.b-index c.loop-b.invariant c.loop-b-test.false

@@ -1,42 +1,47 @@
 -- `catalogue::parsing::parse_line` meets its contract. Assumes nothing.
-use Rattle.std.proofs.Common.{true, false, refl, arith}
-use lib.ListN.{get_or, get_or-eq_default}
-use borrow.Author.Tests.{le-leb, lt-leb, ne_eqb}
-use Rattle.catalogue.proofs.Forms.{form_by, form_digits, form_read}
+use Rattle.std.proofs.Common.{arith, ◌≡◌, ◌≤◌, ◌+◌, ℕ, sym, ap, ◌∙◌}
+use lib.ListN.{take, get_or-eq_default, length-drop}
+use lib.Seq.{take_all}
+use Rattle.catalogue.specs.Lines.{parse_line, entry, other, decimal}
+use Rattle.catalogue.proofs.Decimals.{digits_in_front}
+use Rattle.catalogue.proofs.Forms.{form_read, other_unless}
 use Rattle.catalogue.proofs.parsing.parse_line.Goals as goal
+use Rattle.catalogue.proofs.parsing.parse_line.Goals.{then-n-lt1-via-then-n-lt1, then-n-lt1-via-else-n-lt1+then-n-gt10}
+use Rattle.catalogue.proofs.parsing.parse_line.Goals.{then-n-lt1-via-else-n-lt1+else-n-gt10+then-line-n}
+use Rattle.catalogue.proofs.parsing.parse_line.Goals.{then-n-lt1-via-else-n-lt1+else-n-gt10+else-line-n+then-line-n-ne32}
 
 pub returns-then-n-lt1 : goal.returns-then-n-lt1
 returns-then-n-lt1 c =
-    let n = c.leading_digits-n.result in
-    form_by c.args.line.now n false _ _ _ c.leading_digits-n.ensures.count (lt-leb 1 n c.if-n-lt1.true) refl refl refl
-
-pub returns-then-n-gt10 : goal.returns-then-n-gt10
-returns-then-n-gt10 c =
-    let n = c.leading_digits-n.result in
-    form_by c.args.line.now n true false _ _ c.leading_digits-n.ensures.count (le-leb 1 n c.if-n-lt1.false)
-    (lt-leb n 10 c.if-n-gt10.true) refl refl
-
-pub returns-then-line-n : goal.returns-then-line-n
-returns-then-line-n c =
     let line = c.args.line.now in
-    let n = c.leading_digits-n.result in
-    let e = get_or-eq_default line 0 c.if-line-n.true in
-    form_digits line n false _ c.leading_digits-n.ensures.count c.if-n-lt1.false c.if-n-gt10.false
-    (ne_eqb (get_or line n 0) 32 (λ f. omega arith)) refl
+    let digits = c.leading_digits-n.ensures in
+    let e = digits_in_front line _ digits.inside digits.digits digits.stop in
+    elim c.then-n-lt1.branch [
+      | then-n-lt1-via-then-n-lt1 w ↦ other_unless _ _ e (λ low high space word. omega arith)
+      | then-n-lt1-via-else-n-lt1+then-n-gt10 w ↦ other_unless _ _ e (λ low high space word. omega arith)
+      | then-n-lt1-via-else-n-lt1+else-n-gt10+then-line-n w ↦
+          other_unless _ _ e (λ low high space word. omega (arith, get_or-eq_default line 0 w.if-line-n.true))
+      | then-n-lt1-via-else-n-lt1+else-n-gt10+else-line-n+then-line-n-ne32 w ↦
+          other_unless _ _ e (λ low high space word. w.if-line-n-ne32.true space)
+    ]
 
-pub returns-then-line-n-ne32 : goal.returns-then-line-n-ne32
-returns-then-line-n-ne32 c =
-    let line = c.args.line.now in
-    let n = c.leading_digits-n.result in
-    form_digits line n false _ c.leading_digits-n.ensures.count c.if-n-lt1.false c.if-n-gt10.false
-    (ne_eqb (get_or line n 0) 32 c.if-line-n-ne32.true) refl
-
-pub returns-then-id-gt4294967295 : goal.returns-then-id-gt4294967295
-returns-then-id-gt4294967295 c =
-    form_read c.args.line.now c.leading_digits-n.result c.number-id.result false c.leading_digits-n.ensures.count c.if-n-lt1.false
-    c.if-n-gt10.false c.if-line-n-ne32.false c.number-id.ensures (lt-leb c.number-id.result 4294967295 c.if-id-gt4294967295.true)
+pub returns-in_err-id : goal.returns-in_err-id
+returns-in_err-id c =
+    let digits = c.leading_digits-n.ensures in
+    let e = digits_in_front _ _ digits.inside digits.digits digits.stop in
+    let large = c.in_err-id.ensures in
+    let is : parse_line c.args.line.now ≡ other = other_unless _ _ e (λ low high space word. omega (arith, large)) in
+    rw c.from_residual.ensures is
 
 pub returns : goal.returns
 returns c =
-    form_read c.args.line.now c.leading_digits-n.result c.number-id.result true c.leading_digits-n.ensures.count c.if-n-lt1.false
-    c.if-n-gt10.false c.if-line-n-ne32.false c.number-id.ensures (le-leb c.number-id.result 4294967295 c.if-id-gt4294967295.false)
+    let line = c.args.line.now in
+    let n = c.leading_digits-n.result in
+    let digits = c.leading_digits-n.ensures in
+    let e = digits_in_front _ _ digits.inside digits.digits digits.stop in
+    let id : c.in_ok-id.id ≡ decimal (take n line) = c.in_ok-id.ensures in
+    let word : decimal (take n line) ≤ 4294967295 = omega arith in
+    record {
+      at = n + 1;
+      form = form_read _ _ e c.if-n-lt1.false c.if-n-gt10.false c.if-line-n-ne32.false word ∙ ap (λ (k : ℕ). entry k (n + 1)) (sym id);
+      named = take_all _ _ (omega (arith, length-drop (n + 1) line));
+    }

@@ -1,37 +1,33 @@
 -- `consistency::matching::has_match` meets its contract. Assumes nothing.
-use mathlib.Core.Path.{refl, ap, ◌∙◌}
-use mathlib.Core.Bool.{true, false}
-use borrow.Author.Tests.{lt-ltb, le-ltb, le-leb, lt-leb}
-use Prim.Native.Nat.{ℕ}
-use lib.ListN.{length}
+use Rattle.std.proofs.Common.{ℕ, true, false, List, length, refl, ap, ◌∙◌, lt-ltb, le-leb}
+use borrow.Author.Tests.{lt-leb}
 use Rattle.jhash.proofs.Outcomes.{result_name_hash, result_refused}
-use Rattle.consistency.specs.Matches.{matches_by_hash, any_match}
+use Rattle.reader.proofs.Images.{headed}
+use Rattle.consistency.specs.Matches.{matches_by_hash, matches_of, any_match}
 use Rattle.consistency.proofs.MatchSearch.{matches_by}
 use Rattle.consistency.proofs.matching.has_match.Goals as goal
 
-pub returns-then-image-lt-HEAD_SIZE : goal.returns-then-image-lt-HEAD_SIZE
-returns-then-image-lt-HEAD_SIZE c =
+pub returns-in_default : goal.returns-in_default
+returns-in_default c =
     let a = c.args in
-    let image = a.image.now in
-    let name = a.name.now in
-    matches_by image name a.id true _ (lt-ltb (length image) 2072 c.if-image-lt-HEAD_SIZE.true) refl
+    matches_by a.image.now a.name.now a.id true _ (lt-ltb (length a.image.now) 2072 c.in_default.ensures) refl
 
-pub returns-in-Hash : goal.returns-in-Hash
-returns-in-Hash c =
+pub returns-in-Ok : goal.returns-in-Ok
+returns-in-Ok c =
     let a = c.args in
-    let image = a.image.now in
+    let image = c.in-Some.image.bytes.now in
     let name = a.name.now in
-    let of_hash = c.name_hash in
-    let told = result_name_hash name of_hash.result c.in-Hash.h of_hash.ensures c.in-Hash.is in
+    let told = result_name_hash name c.name_hash.result c.in-Ok.h c.name_hash.ensures c.in-Ok.is in
     c.has_match_hashed.ensures
     ∙ ap (λ (h : ℕ). any_match a.id (matches_by_hash image name h)) told.1
-    ∙ matches_by image name a.id false false (le-ltb (length image) 2072 c.if-image-lt-HEAD_SIZE.false) (lt-leb 4294967295 (length name) told.0)
+    ∙ matches_by image name a.id false false (headed c.in-Some.image) (lt-leb 4294967295 (length name) told.0)
+    ∙ ap (λ (l : List ℕ). any_match a.id (matches_of l name)) (λ i. (c.in-Some.ensures i).now)
 
-pub returns-in-Refused : goal.returns-in-Refused
-returns-in-Refused c =
+pub returns-in-Err : goal.returns-in-Err
+returns-in-Err c =
     let a = c.args in
-    let image = a.image.now in
+    let image = c.in-Some.image.bytes.now in
     let name = a.name.now in
-    let of_hash = c.name_hash in
-    matches_by image name a.id false true (le-ltb (length image) 2072 c.if-image-lt-HEAD_SIZE.false)
-    (le-leb 4294967295 (length name) (result_refused name 0 of_hash.result of_hash.ensures c.in-Refused.is))
+    matches_by image name a.id false true (headed c.in-Some.image)
+    (le-leb 4294967295 (length name) (result_refused name 0 c.name_hash.result c.in-Err.field-0 c.name_hash.ensures c.in-Err.is))
+    ∙ ap (λ (l : List ℕ). any_match a.id (matches_of l name)) (λ i. (c.in-Some.ensures i).now)

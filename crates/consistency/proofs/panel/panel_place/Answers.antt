@@ -1,5 +1,5 @@
 -- `consistency::panel::panel_place` meets its contract. Assumes nothing.
-use mathlib.Core.Path.{sym, ap, ◌∙◌}
+use Rattle.std.proofs.Common.{sym, ap, ◌∙◌}
 use Rattle.reader.specs.Cases.{naming_of}
 use Rattle.reader.proofs.Namings.{named}
 use Rattle.consistency.proofs.Panels.{panel_named, panel_unnamed}
@@ -7,16 +7,14 @@ use Rattle.consistency.proofs.panel.panel_place.Goals as goal
 
 pub shown_length-requires : goal.shown_length-requires
 shown_length-requires c =
-    let a = c.args in
-    (named a.image.now a.id c.in-Place.start c.in-Place.len (sym c.to_str.ensures ∙ ap naming_of c.in-Place.is)).inside
+    let place = c.in_ok-place.place in
+    (named c.args.image.now c.args.id place.start place.len (sym c.in_ok-place.ensures)).inside
 
-pub returns-in-Place : goal.returns-in-Place
-returns-in-Place c =
-    let a = c.args in
-    let told = ap naming_of (sym c.in-Place.is) ∙ c.to_str.ensures in
-    panel_named a.image.now a.id c.in-Place.start c.in-Place.len told c.shown_length.result c.shown_length.ensures
+pub returns-in_err-place : goal.returns-in_err-place
+returns-in_err-place c =
+    ap naming_of c.from_residual.ensures ∙ panel_unnamed c.args.image.now c.args.id c.in_err-place.ensures
 
-pub returns-in-Nothing : goal.returns-in-Nothing
-returns-in-Nothing c =
-    let a = c.args in
-    panel_unnamed a.image.now a.id (ap naming_of (sym c.in-Nothing.is) ∙ c.to_str.ensures)
+pub returns : goal.returns
+returns c =
+    let place = c.in_ok-place.place in
+    panel_named c.args.image.now c.args.id place.start place.len c.in_ok-place.ensures c.shown_length.result c.shown_length.ensures

@@ -1,54 +1,18 @@
--- `consistency::panel::readings_agree` meets its contract. The loop's invariant: the ids that are left agree exactly where all do. Assumes nothing.
-use Prim.Native.Nat.{ℕ, ◌-◌}
-use native.Mathlib.Omega.{arith}
-use mathlib.Core.Path.{◌≡◌, sym, ap, ◌∙◌}
-use Rattle.image.specs.Bytes.{all}
-use Rattle.consistency.specs.Panel.{agree_on}
+-- `consistency::panel::readings_agree` meets its contract: the chain's answer is that of the ids below the upper hint. Assumes nothing.
+use Rattle.std.proofs.Common.{◌≡◌, ◌-◌, refl, ap, ◌∙◌, arith, rules, tests}
+use Rattle.std.proofs.lemmas.Iterator.{YieldsList-from_range}
+use Rattle.std.proofs.lemmas.Iterator.Search.{all_from_yields_List}
 use Rattle.reader.specs.IdWalk.{upper_hint}
-use Rattle.consistency.proofs.Panels.{disagree, agree_further, agree_hinted, agree_none, agree_step_nonzero, agree_step_zero, agree_step_next}
+use Rattle.consistency.specs.Panel.{agree_on}
+use Rattle.consistency.proofs.Panels.{agree_hinted, all_of_range}
 use Rattle.consistency.proofs.panel.readings_agree.Goals as goal
-
-pub loop-id-init : goal.loop-id-init
-loop-id-init c =
-    let image = c.args.image.now in
-    let n = c.size_hint-n.result in
-    let whole : n - 0 ≡ n = omega arith in
-    let hint = c.size_hint-n.ensures ∙ ap (upper_hint image) c.iter.ensures in
-    record { most = omega arith; same = ap (all (agree_on image) 0) whole ∙ agree_hinted image n hint }
-
-pub returns-then-next-eq0 : goal.returns-then-next-eq0
-returns-then-next-eq0 c =
-    let image = c.args.image.now in
-    let n = c.size_hint-n.result in
-    let less = c.loop-id-test.true in
-    let look = c.agree_step-next in
-    let no = agree_step_zero (agree_on image c.loop-id.id) c.loop-id.id look.result look.ensures c.if-next-eq0.true in
-    sym (disagree image n c.loop-id.id less no) ∙ c.loop-id.invariant.same
-
-pub loop-id-smaller : goal.loop-id-smaller
-loop-id-smaller c =
-    let image = c.args.image.now in
-    let look = c.agree_step-next in
-    let less = c.loop-id-test.true in
-    let next = agree_step_next (agree_on image c.loop-id.id) c.loop-id.id look.result look.ensures c.if-next-eq0.false in
-    omega arith
-
-pub loop-id-preserved : goal.loop-id-preserved
-loop-id-preserved c =
-    let image = c.args.image.now in
-    let n = c.size_hint-n.result in
-    let less = c.loop-id-test.true in
-    let look = c.agree_step-next in
-    let yes = agree_step_nonzero (agree_on image c.loop-id.id) c.loop-id.id look.result look.ensures c.if-next-eq0.false in
-    let next = agree_step_next (agree_on image c.loop-id.id) c.loop-id.id look.result look.ensures c.if-next-eq0.false in
-    record {
-      most = omega arith;
-      same = ap (λ (k : ℕ). all (agree_on image) k (n - k)) next ∙ agree_further image n c.loop-id.id less yes ∙ c.loop-id.invariant.same;
-    }
 
 pub returns : goal.returns
 returns c =
     let image = c.args.image.now in
-    let n = c.size_hint-n.result in
-    let done : n - c.loop-id.id ≡ 0 = omega (arith, c.loop-id-test.false) in
-    sym (ap (all (agree_on image) c.loop-id.id) done ∙ agree_none image c.loop-id.id) ∙ c.loop-id.invariant.same
+    let n = c.size_hint.result in
+    let whole : n - 0 ≡ n = omega arith in
+    all_from_yields_List (agree_on image) _ _ c.all.result c.all.ensures.ran (YieldsList-from_range 0 n n refl whole)
+    (λ x b q k. search (rules, tests))
+    ∙ all_of_range (agree_on image) n 0
+    ∙ agree_hinted image n (c.size_hint.ensures ∙ ap (upper_hint image) c.iter.ensures)

@@ -10,7 +10,7 @@ use Rattle.cqdb_c.proofs.naming.cqdb_to_str.Goals as goal
 pub place_answer-requires : goal.place_answer-requires
 place_answer-requires c =
     let a = c.args in
-    rw c.to_str.ensures (naming_small a.image.now a.id (λ (i : ℕ). omega (arith, c.shared_slice_known-1.given i)))
+    rw c.to_str.ensures (naming_small a.image.now a.id (λ (i : ℕ). omega (arith, c.type_inv.image i)))
 
 pub returns : goal.returns
 returns c = c.place_answer.ensures ∙ ap place_answer_of c.to_str.ensures

@@ -14,10 +14,10 @@ pub loop-i-init : goal.loop-i-init
 loop-i-init c = record { inside = search rules; rest = refl }
 
 bytes_a : (c : After-word8-in-loop-i) → AllBytes c.args.a.now
-bytes_a c k = (c.shared_slice_known-1.given k).fits
+bytes_a c k = (c.type_inv.a k).fits
 
 bytes_b : (c : After-word8-in-loop-i) → AllBytes c.args.b.now
-bytes_b c k = (c.shared_slice_known-2-1.given k).fits
+bytes_b c k = (c.type_inv.b k).fits
 
 pub returns-then-word8 : goal.returns-then-word8
 returns-then-word8 c =

@@ -12,9 +12,6 @@ returns-then-a-i c =
     let a = c.args in
     other_byte a.a.now a.b.now c.loop-i.i (c.loop-i.i + 1) refl (omega arith) (omega arith) c.if-a-i.true ∙ c.loop-i.invariant.rest
 
-pub loop-i-smaller : goal.loop-i-smaller
-loop-i-smaller c = omega arith
-
 pub loop-i-preserved : goal.loop-i-preserved
 loop-i-preserved c =
     let a = c.args in

@@ -1,11 +1,7 @@
 -- `image::equality::same_from` meets its contract. The loop's invariant: what is left from here on is equal exactly where all from the start on is.
 -- Assumes nothing.
-use Rattle.std.proofs.Common.{◌-◌, length}
 use Rattle.image.proofs.Equal.{SameInv}
 use Rattle.image.proofs.equality.same_from.Given as goal
 
 abbrev pub invariant-loop-i : goal.invariant-loop-i
 invariant-loop-i l = SameInv l.a l.b l.from l.i
-
-abbrev pub decreases-loop-i : goal.decreases-loop-i
-decreases-loop-i l = length l.a - l.i

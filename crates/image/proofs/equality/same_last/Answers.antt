@@ -13,9 +13,7 @@ returns-then-word c =
 pub returns : goal.returns
 returns c =
     let a = c.args in
-    let known-a = c.shared_slice_known-1 in
-    let known-b = c.shared_slice_known-2-1 in
     let equal = sym c.word.ensures ∙ c.if-word.false ∙ c.word-2.ensures in
     c.same_from-2.ensures
     ∙ sym
-    (same_word a.a.now a.b.now a.from (omega arith) (omega arith) (λ k. (known-a.given k).fits) (λ k. (known-b.given k).fits) equal)
+    (same_word a.a.now a.b.now a.from (omega arith) (omega arith) (λ k. (c.type_inv.a k).fits) (λ k. (c.type_inv.b k).fits) equal)

@@ -8,6 +8,6 @@ returns c =
     let a = c.args in
     let found = c.first_empty_before.ensures in
     record {
-      is = found.is ∙ none_hidden a.buf.now a.o a.n a.k (λ i. (c.shared_slice_known-1.given i).fits) c.requires.start;
+      is = found.is ∙ none_hidden a.buf.now a.o a.n a.k (λ i. (c.type_inv.buf i).fits) c.requires.start;
       inside = found.inside;
     }

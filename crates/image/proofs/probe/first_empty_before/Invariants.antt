@@ -1,11 +1,8 @@
 -- `image::probe::first_empty_before` meets its contract. Assumes nothing.
-use Rattle.std.proofs.Common.{ℕ}
+use Rattle.std.proofs.Common.{ℕ, ◌-◌}
 use Rattle.image.specs.Steps.Contracts.{offset_at, hidden}
 use Rattle.image.proofs.FirstEmpty.{Probing}
 use Rattle.image.proofs.probe.first_empty_before.Given as goal
 
-abbrev pub invariant-loop-left : goal.invariant-loop-left
-invariant-loop-left l = Probing (λ (j : ℕ). hidden l.before (offset_at l.buf l.o j)) l.n l.k l.i l.left
-
-abbrev pub decreases-loop-left : goal.decreases-loop-left
-decreases-loop-left l = l.left
+abbrev pub invariant-loop : goal.invariant-loop
+invariant-loop l = Probing (λ (j : ℕ). hidden l.before (offset_at l.buf l.o j)) l.n l.k l.i (l.n - l.counter)

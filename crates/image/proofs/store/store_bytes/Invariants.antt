@@ -1,10 +1,6 @@
 -- `image::store::store_bytes` meets its contract. Assumes nothing.
-use Rattle.std.proofs.Common.{◌-◌, length}
 use Rattle.image.proofs.Stores.{StoreInv}
 use Rattle.image.proofs.store.store_bytes.Given as goal
 
 abbrev pub invariant-loop-j : goal.invariant-loop-j
 invariant-loop-j l = StoreInv l.initial.buf l.at l.src l.buf l.j
-
-abbrev pub decreases-loop-j : goal.decreases-loop-j
-decreases-loop-j l = length l.src - l.j

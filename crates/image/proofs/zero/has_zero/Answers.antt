@@ -1,7 +1,7 @@
 -- `image::zero::has_zero` meets its contract. The loop's invariant: what is left has a zero byte exactly where the name has. Assumes nothing.
-use Rattle.std.proofs.Common.{◌-◌, length, sym, ◌∙◌, arith}
+use Rattle.std.proofs.Common.{◌+◌, ◌-◌, length, sym, ◌∙◌, arith}
 use Rattle.image.proofs.Bools.{or_false_first, or_false_second}
-use Rattle.image.proofs.Zeros.{zero_at_an_end, none_in_first, zero_in_front, none_in_front, zero_last, zero_overlap}
+use Rattle.image.proofs.Zeros.{zero_at_an_end, none_in_first, zero_in_front, none_in_front, none_at_last}
 use Rattle.image.proofs.zero.has_zero.Goals as goal
 
 pub returns-then-name-lt8 : goal.returns-then-name-lt8
@@ -37,11 +37,19 @@ loop-i-preserved c =
     let eight = sym c.zero_in_eight-in-loop-i.ensures ∙ c.if-zero_in_eight-2.false in
     record { inside = omega arith; rest = sym (none_in_front name c.loop-i.i 8 eight) ∙ c.loop-i.invariant.rest }
 
-pub returns : goal.returns
-returns c =
+pub returns-else-zero_in_eight : goal.returns-else-zero_in_eight
+returns-else-zero_in_eight c =
+    let first = c.zero_in_eight in
+    let last = c.zero_in_eight-2 in
+    let none = sym last.ensures ∙ or_false_second first.result last.result c.if-zero_in_eight.false in
+    none_at_last c.args.name.now c.loop-i.i (omega arith) (omega arith) none c.loop-i.invariant.rest
+
+pub returns-else-zero_in_eight-2 : goal.returns-else-zero_in_eight-2
+returns-else-zero_in_eight-2 c =
     let name = c.args.name.now in
     let first = c.zero_in_eight in
     let last = c.zero_in_eight-2 in
     let none = sym last.ensures ∙ or_false_second first.result last.result c.if-zero_in_eight.false in
-    sym (sym (zero_last name 8 (omega arith)) ∙ none)
-    ∙ zero_overlap name (length name - 8) c.loop-i.i (omega arith) c.loop-i.invariant.rest
+    let eight = sym c.zero_in_eight-in-loop-i.ensures ∙ c.if-zero_in_eight-2.false in
+    none_at_last name (c.loop-i.i + 8) (omega arith) (omega arith) none
+    (sym (none_in_front name c.loop-i.i 8 eight) ∙ c.loop-i.invariant.rest)

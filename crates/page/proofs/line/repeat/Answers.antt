@@ -1,37 +1,13 @@
 -- `page::line::repeat` meets its contract. Assumes nothing.
-use native.Mathlib.Omega.{arith}
-use native.Mathlib.Nat.{add-zero}
-use Prim.Native.Nat.{◌+◌}
-use mathlib.Core.Path.{refl, sym, ◌∙◌}
-use lib.ListN.{length-set}
-use Rattle.page.proofs.PageStores.{repeat_turn, repeat_end}
+use Rattle.std.proofs.Common.{◌≡◌, ◌+◌, ◌-◌, ℕ, length, take, drop, replicate, ap, ◌∙◌, arith, length-take, length-drop, rules}
+use lib.ListN.{length-replicate}
+use Rattle.page.proofs.PageStores.{part_stored}
 use Rattle.page.proofs.line.repeat.Goals as goal
-
-pub loop-j-init : goal.loop-j-init
-loop-j-init c = record { inside = omega arith; out_length = refl; whole = simp add-zero }
-
-pub overflow_add-out : goal.overflow_add-out
-overflow_add-out c = omega arith
-
-pub bounds-out-at : goal.bounds-out-at
-bounds-out-at c = omega arith
-
-pub overflow_add-j : goal.overflow_add-j
-overflow_add-j c = omega arith
-
-pub loop-j-smaller : goal.loop-j-smaller
-loop-j-smaller c = omega arith
-
-pub loop-j-preserved : goal.loop-j-preserved
-loop-j-preserved c =
-    let a = c.args in
-    record {
-      inside = omega arith;
-      out_length = simp length-set c.loop-j.invariant.out_length;
-      whole = repeat_turn c.loop-j.out a.at c.loop-j.j 32 a.b c.loop-j-test.true ∙ c.loop-j.invariant.whole;
-    }
 
 pub returns : goal.returns
 returns c =
     let a = c.args in
-    sym (repeat_end c.loop-j.out (a.at + c.loop-j.j) c.loop-j.j 32 a.b c.loop-j-test.false) ∙ c.loop-j.invariant.whole
+    let n : a.at + 32 - a.at ≡ 32 = omega arith in
+    let long : length (take (a.at + 32 - a.at) (drop a.at a.out.now)) ≡ 32 = simp (length-take, length-drop) (omega arith) in
+    part_stored a.at (a.at + 32 - a.at) a.out.now _ (replicate 32 a.b) (omega arith) (length-replicate 32 a.b ∙ omega arith)
+    (c.fill.ensures.after (λ y e. search rules) ∙ ap (λ (m : ℕ). replicate m a.b) long)

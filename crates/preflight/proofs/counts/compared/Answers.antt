@@ -1,26 +1,24 @@
--- `preflight::counts::compared` meets its contract. The loop's invariant is `TallyInv`: the first i ids are counted. Assumes nothing.
-use native.Mathlib.Omega.{arith}
-use Rattle.reader.specs.Naming.{name_given}
-use Rattle.preflight.specs.Counts.{names}
-use Rattle.preflight.proofs.Tallies.{tally_starts, tallies_on, tallied}
+-- `preflight::counts::compared` meets its contract. Assumes nothing.
+use Rattle.std.proofs.Common.{arith, ◌≡◌, Bool, true, false, sym, ap, ◌∙◌}
+use Rattle.preflight.specs.Counts.{is_given}
+use Rattle.preflight.proofs.Given.{given_so}
+use Rattle.preflight.proofs.Tallies.{tally_starts, tally_yes, tally_no, tallied}
+use Rattle.preflight.proofs.counts.compared.Goals.{then-is_some, else-is_some}
 use Rattle.preflight.proofs.counts.compared.Goals as goal
 
-pub loop-i-init : goal.loop-i-init
-loop-i-init c = let a = c.args in tally_starts (names (name_given a.old.now)) a.round.now
+pub loop-id-init : goal.loop-id-init
+loop-id-init c = tally_starts _ _
 
 pub overflow_add-seen : goal.overflow_add-seen
-overflow_add-seen c = omega (arith, c.one_if_named-seen.ensures.most, c.loop-i.invariant.most)
+overflow_add-seen c = omega (arith, c.loop-id.invariant.most)
 
-pub loop-i-preserved : goal.loop-i-preserved
-loop-i-preserved c =
-    let a = c.args in
-    tallies_on (names (name_given a.old.now)) a.round.now c.loop-i.seen c.loop-i.i _ c.loop-i.invariant c.loop-i-test.true
-    c.one_if_named-seen.ensures
+pub loop-id-preserved : goal.loop-id-preserved
+loop-id-preserved c =
+    let named = sym (ap is_given c.name_given.ensures) ∙ sym (given_so c.name_given.result) ∙ sym c.is_some.ensures in
+    elim c.if-is_some.branch [
+      | then-is_some w ↦ tally_yes _ _ _ _ _ c.loop-id.invariant c.loop-id-test.true (named ∙ w.if-is_some.true) w.seen-is
+      | else-is_some w ↦ tally_no _ _ _ _ _ c.loop-id.invariant c.loop-id-test.true (named ∙ w.if-is_some.false) w.seen-is
+    ]
 
 pub returns : goal.returns
-returns c =
-    let a = c.args in
-    tallied (names (name_given a.old.now)) a.round.now c.loop-i.seen c.loop-i.i c.loop-i.invariant c.loop-i-test.false
-
-pub loop-i-smaller : goal.loop-i-smaller
-loop-i-smaller c = omega arith
+returns c = tallied _ _ _ _ c.loop-id.invariant c.loop-id-test.false

@@ -1,68 +1,49 @@
 -- `preflight::dates::preflight_dates` meets its contract, by the tests that led to each return. Assumes nothing.
-use mathlib.Core.Path.{◌≡◌, refl, sym, ◌∙◌}
-use mathlib.Core.Bool.{true, false}
-use Rattle.validity.specs.Calendar.{is_date}
-use Rattle.validity.specs.Rule.{some_window, invalid_dates, inverted}
+use Rattle.std.proofs.Common.{rules, refl, sym, ◌∙◌, true, false}
+use Rattle.validity.specs.Rule.{invalid_dates, inverted}
 use Rattle.preflight.specs.Dates.{windows_in}
 use Rattle.preflight.proofs.Windows.{dates_by}
-use Rattle.preflight.proofs.dates.preflight_dates.Goals.{After-first_outside, After-is_date-2, After-some_invalid, After-some_inverted}
+use Rattle.preflight.proofs.dates.preflight_dates.Goals.{then-not-is_date-via-then-not-is_date}
+use Rattle.preflight.proofs.dates.preflight_dates.Goals.{then-not-is_date-via-else-not-is_date+then-not-is_date-2}
+use Rattle.preflight.proofs.dates.preflight_dates.Goals.{then-not-is_date-via-else-not-is_date+else-not-is_date-2+then-some_window}
 use Rattle.preflight.proofs.dates.preflight_dates.Goals as goal
-
-last_so : (c : After-is_date-2) → is_date c.args.last ≡ true
-last_so c =
-    let d = c.is_date in
-    sym d.ensures ∙ c.if-not-is_date.false
-
-date_so : (c : After-some_invalid) → is_date c.args.date ≡ true
-date_so c =
-    let d = c.is_date-2 in
-    sym d.ensures ∙ c.if-not-is_date-2.false
-
-dates_so : (c : After-some_inverted) → some_window invalid_dates (windows_in c.args.windows.now) ≡ false
-dates_so c = sym c.some_invalid.ensures ∙ c.if-some_invalid.false
-
-order_so : (c : After-first_outside) → some_window inverted (windows_in c.args.windows.now) ≡ false
-order_so c = sym c.some_inverted.ensures ∙ c.if-some_inverted.false
 
 pub returns-then-not-is_date : goal.returns-then-not-is_date
 returns-then-not-is_date c =
-    let d = c.is_date in
     let a = c.args in
-    dates_by (windows_in a.windows.now) a.round.now a.last a.date false _ _ _ _ (sym d.ensures ∙ c.if-not-is_date.true)
-    refl refl refl refl
+    let ws = windows_in a.windows.now in
+    elim c.then-not-is_date.branch [
+      | then-not-is_date-via-then-not-is_date w ↦
+          dates_by ws a.round.now a.last a.date false _ _ _ _ (sym c.is_date.ensures ∙ w.if-not-is_date.true) refl refl refl refl
+      | then-not-is_date-via-else-not-is_date+then-not-is_date-2 w ↦
+          dates_by ws a.round.now a.last a.date true false _ _ _ (sym c.is_date.ensures ∙ w.if-not-is_date.false)
+          (sym w.is_date-else-not-is_date.ensures ∙ w.if-not-is_date-2.true) refl refl refl
+      | then-not-is_date-via-else-not-is_date+else-not-is_date-2+then-some_window w ↦
+          dates_by ws a.round.now a.last a.date true true true _ _ (sym c.is_date.ensures ∙ w.if-not-is_date.false)
+          (sym w.is_date-else-not-is_date.ensures ∙ w.if-not-is_date-2.false)
+          (sym (w.some_window.ensures invalid_dates (λ v r p. search rules)) ∙ w.if-some_window.true) refl refl
+    ]
 
-pub returns-then-not-is_date-2 : goal.returns-then-not-is_date-2
-returns-then-not-is_date-2 c =
-    let d = c.is_date-2 in
+pub returns-then-some_window-2 : goal.returns-then-some_window-2
+returns-then-some_window-2 c =
     let a = c.args in
-    dates_by (windows_in a.windows.now) a.round.now a.last a.date true false _ _ _ (last_so (goal.at.returns-then-not-is_date-2 c).After-is_date-2)
-    (sym d.ensures ∙ c.if-not-is_date-2.true) refl refl refl
+    dates_by (windows_in a.windows.now) a.round.now a.last a.date true true false true _
+    (sym c.is_date.ensures ∙ c.if-not-is_date.false) (sym c.is_date-else-not-is_date.ensures ∙ c.if-not-is_date-2.false)
+    (sym (c.some_window.ensures invalid_dates (λ v r p. search rules)) ∙ c.if-some_window.false)
+    (sym (c.some_window-2.ensures inverted (λ v r p. search rules)) ∙ c.if-some_window-2.true) refl
 
-pub returns-then-some_invalid : goal.returns-then-some_invalid
-returns-then-some_invalid c =
+pub returns-in-Some : goal.returns-in-Some
+returns-in-Some c =
     let a = c.args in
-    let at = goal.at.returns-then-some_invalid c in
-    dates_by (windows_in a.windows.now) a.round.now a.last a.date true true true _ _ (last_so at.After-is_date-2) (date_so at.After-some_invalid)
-    (sym c.some_invalid.ensures ∙ c.if-some_invalid.true) refl refl
+    dates_by (windows_in a.windows.now) a.round.now a.last a.date true true false false _
+    (sym c.is_date.ensures ∙ c.if-not-is_date.false) (sym c.is_date-else-not-is_date.ensures ∙ c.if-not-is_date-2.false)
+    (sym (c.some_window.ensures invalid_dates (λ v r p. search rules)) ∙ c.if-some_window.false)
+    (sym (c.some_window-2.ensures inverted (λ v r p. search rules)) ∙ c.if-some_window-2.false) (sym c.in-Some.ensures)
 
-pub returns-then-some_inverted : goal.returns-then-some_inverted
-returns-then-some_inverted c =
+pub returns-in-None : goal.returns-in-None
+returns-in-None c =
     let a = c.args in
-    let at = goal.at.returns-then-some_inverted c in
-    dates_by (windows_in a.windows.now) a.round.now a.last a.date true true false true _ (last_so at.After-is_date-2) (date_so at.After-some_invalid)
-    (dates_so at.After-some_inverted)
-    (sym c.some_inverted.ensures ∙ c.if-some_inverted.true) refl
-
-pub returns-in-At : goal.returns-in-At
-returns-in-At c =
-    let a = c.args in
-    let at = goal.at.returns-in-At c in
-    dates_by (windows_in a.windows.now) a.round.now a.last a.date true true false false _ (last_so at.After-is_date-2) (date_so at.After-some_invalid)
-    (dates_so at.After-some_inverted) (order_so at.After-first_outside) (sym c.first_outside.ensures ∙ c.in-At.is)
-
-pub returns-in-Nothing : goal.returns-in-Nothing
-returns-in-Nothing c =
-    let a = c.args in
-    let at = goal.at.returns-in-Nothing c in
-    dates_by (windows_in a.windows.now) a.round.now a.last a.date true true false false _ (last_so at.After-is_date-2) (date_so at.After-some_invalid)
-    (dates_so at.After-some_inverted) (order_so at.After-first_outside) (sym c.first_outside.ensures ∙ c.in-Nothing.is)
+    dates_by (windows_in a.windows.now) a.round.now a.last a.date true true false false _
+    (sym c.is_date.ensures ∙ c.if-not-is_date.false) (sym c.is_date-else-not-is_date.ensures ∙ c.if-not-is_date-2.false)
+    (sym (c.some_window.ensures invalid_dates (λ v r p. search rules)) ∙ c.if-some_window.false)
+    (sym (c.some_window-2.ensures inverted (λ v r p. search rules)) ∙ c.if-some_window-2.false) (sym c.in-None.ensures)

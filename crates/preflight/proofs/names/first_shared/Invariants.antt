@@ -1,13 +1,9 @@
--- `preflight::names::first_shared` meets its contract. The loop's invariant: what is left of the round decides. Assumes nothing.
-use Prim.Native.Nat.{◌-◌}
-use mathlib.Core.Path.{◌≡◌}
-use lib.ListN.{length, drop}
+-- What is left of the round, from the place at hand on, answers for all of it.
+use Rattle.std.proofs.Common.{◌≡◌, drop}
 use Rattle.reader.specs.Naming.{name_given}
-use Rattle.preflight.specs.Exchanges.{first_shared}
+use Rattle.preflight.specs.Exchanges.{first_shared, first_shared_in}
 use Rattle.preflight.proofs.names.first_shared.Given as goal
 
-abbrev pub invariant-loop-i : goal.invariant-loop-i
-invariant-loop-i l = first_shared (name_given l.new) l.round l.i (drop l.i l.round) ≡ first_shared (name_given l.new) l.round 0 l.round
-
-abbrev pub decreases-loop-i : goal.decreases-loop-i
-decreases-loop-i l = length l.round - l.i
+abbrev pub invariant-loop-place : goal.invariant-loop-place
+invariant-loop-place l =
+    first_shared (name_given l.new) l.round l.place (drop l.place l.round) ≡ first_shared_in (name_given l.new) l.round

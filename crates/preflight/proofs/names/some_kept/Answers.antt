@@ -1,34 +1,18 @@
--- `preflight::names::some_kept` meets its contract. The loop's invariant: the ids that are left decide. Assumes nothing.
-use native.Mathlib.Omega.{arith}
-use mathlib.Core.Path.{sym, ◌∙◌}
-use mathlib.Core.Bool.{true, false}
+-- `preflight::names::some_kept` meets its contract: the chain's answer is that of the ids below the upper hint. Assumes nothing.
+use Rattle.std.proofs.Common.{◌≡◌, ◌-◌, refl, ap, ◌∙◌, arith, rules, tests}
+use Rattle.std.proofs.lemmas.Iterator.{YieldsList-from_range}
+use Rattle.std.proofs.lemmas.Iterator.Search.{any_from_yields_List}
 use Rattle.reader.specs.Naming.{name_given}
-use Rattle.preflight.proofs.Walks.{kept_end, kept_turn, kept_start}
+use Rattle.preflight.specs.Names.{kept}
+use Rattle.preflight.proofs.Walks.{any_of_range, kept_hinted}
 use Rattle.preflight.proofs.names.some_kept.Goals as goal
-
-pub loop-id-init : goal.loop-id-init
-loop-id-init c =
-    let a = c.args in
-    kept_start a.old.now _ _ c.iter.ensures c.size_hint-end.ensures a.new.now
-
-pub returns-then-kept : goal.returns-then-kept
-returns-then-kept c =
-    let a = c.args in
-    kept_turn (name_given a.old.now) (name_given a.new.now) c.loop-id.id _ true c.loop-id-test.true
-    (sym c.kept.ensures ∙ c.if-kept.true)
-    ∙ c.loop-id.invariant
-
-pub loop-id-preserved : goal.loop-id-preserved
-loop-id-preserved c =
-    let a = c.args in
-    kept_turn (name_given a.old.now) (name_given a.new.now) c.loop-id.id _ false c.loop-id-test.true
-    (sym c.kept.ensures ∙ c.if-kept.false)
-    ∙ c.loop-id.invariant
 
 pub returns : goal.returns
 returns c =
     let a = c.args in
-    sym (kept_end (name_given a.old.now) (name_given a.new.now) c.loop-id.id _ c.loop-id-test.false) ∙ c.loop-id.invariant
-
-pub loop-id-smaller : goal.loop-id-smaller
-loop-id-smaller c = omega arith
+    let n = c.size_hint.result in
+    let whole : n - 0 ≡ n = omega arith in
+    any_from_yields_List (kept (name_given a.old.now) (name_given a.new.now)) _ _ c.any.result c.any.ensures.ran (YieldsList-from_range 0 n n refl whole)
+    (λ x b q k. search (rules, tests))
+    ∙ any_of_range (name_given a.old.now) (name_given a.new.now) n 0
+    ∙ kept_hinted a.old.now _ n c.iter.ensures c.size_hint.ensures a.new.now

@@ -1,34 +1,25 @@
 -- `reader::id_walk::next` meets its contract. Assumes nothing.
 use Rattle.std.proofs.Common.{sym, ap, ◌∙◌, arith}
 use Rattle.reader.specs.IdWalk.{step, step_of}
-use Rattle.reader.specs.Cases.{naming_of}
+use Rattle.reader.specs.Cases.{stepped_of}
 use Rattle.jhash.proofs.WordRead.{word_below}
 use Rattle.reader.proofs.Namings.{named}
 use Rattle.reader.proofs.id_walk.next.Goals as goal
 
 pub overflow_add-result : goal.overflow_add-result
 overflow_add-result c =
-    let a = c.args in
-    let image = a.image.now in
-    let of-to-str = c.to_str in
-    let of-shared-slice-known = c.shared_slice_known-1 in
+    let image = c.args.image.now in
+    let place = c.in_ok-place.place in
     omega (
       arith,
-      (named image a.walk.next c.in-Place.start c.in-Place.len
-          (sym of-to-str.ensures ∙ ap naming_of c.in-Place.is)).below,
-      word_below image 16 (λ k. (of-shared-slice-known.given k).fits),
+      (named image c.args.walk.next place.start place.len (sym c.in_ok-place.ensures)).below,
+      word_below image 16 (λ k. (c.type_inv.image k).fits),
     )
 
-pub returns-in-Place : goal.returns-in-Place
+pub returns-in_err-place : goal.returns-in_err-place
 unfolding step
-returns-in-Place c =
-    let a = c.args in
-    let of-to-str = c.to_str in
-    ap (step_of a.walk.next) (ap naming_of (sym c.in-Place.is) ∙ of-to-str.ensures)
+returns-in_err-place c = ap stepped_of c.from_residual.ensures ∙ ap (step_of c.args.walk.next) c.in_err-place.ensures
 
-pub returns-in-Nothing : goal.returns-in-Nothing
+pub returns : goal.returns
 unfolding step
-returns-in-Nothing c =
-    let a = c.args in
-    let of-to-str = c.to_str in
-    ap (step_of a.walk.next) (ap naming_of (sym c.in-Nothing.is) ∙ of-to-str.ensures)
+returns c = ap (step_of c.args.walk.next) c.in_ok-place.ensures

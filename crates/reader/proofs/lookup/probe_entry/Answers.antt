@@ -1,8 +1,7 @@
 -- `reader::lookup::probe_entry` meets its contract. Assumes nothing.
-use Rattle.std.proofs.Common.{ℕ, true, false, List, sym, refl, ap, ◌∙◌, arith}
+use Rattle.std.proofs.Common.{ℕ, true, false, List, sym, refl, ap, ◌∙◌}
 use Rattle.image.specs.Bytes.{same}
 use Rattle.reader.specs.Lookup.{hit}
-use Rattle.image.proofs.Unbroken.{unbroken}
 use Rattle.reader.proofs.Searches.{name_slice, probe_entry_by}
 use Rattle.reader.proofs.lookup.probe_entry.Goals as goal
 
@@ -12,33 +11,6 @@ returns-then-broken c =
     let image = a.image.now in
     let name = a.name.now in
     probe_entry_by image name a.at true _ (sym c.broken.ensures ∙ c.if-broken.true) refl
-
-pub word-requires : goal.word-requires
-word-requires c =
-    let a = c.args in
-    let image = a.image.now in
-    omega (arith, unbroken image a.at (sym c.broken.ensures ∙ c.if-broken.false))
-
-pub overflow_sub-end : goal.overflow_sub-end
-overflow_sub-end c =
-    let a = c.args in
-    let image = a.image.now in
-    let of-broken = c.broken in
-    omega (arith, unbroken image a.at (sym of-broken.ensures ∙ c.if-broken.false), c.word.ensures)
-
-pub slice_bounds-same-end : goal.slice_bounds-same-end
-slice_bounds-same-end c =
-    let a = c.args in
-    let image = a.image.now in
-    let of-broken = c.broken in
-    omega (arith, unbroken image a.at (sym of-broken.ensures ∙ c.if-broken.false), c.word.ensures)
-
-pub word-requires-then-same : goal.word-requires-then-same
-word-requires-then-same c =
-    let a = c.args in
-    let image = a.image.now in
-    let of-broken = c.broken in
-    omega (arith, unbroken image a.at (sym of-broken.ensures ∙ c.if-broken.false))
 
 pub returns-then-same : goal.returns-then-same
 returns-then-same c =

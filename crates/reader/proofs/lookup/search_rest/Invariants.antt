@@ -1,10 +1,8 @@
 -- `reader::lookup::search_rest` meets its contract. The loop's invariant: what is left of the search, from here on, answers what was left at the start.
 -- Assumes nothing.
+use Rattle.std.proofs.Common.{◌-◌}
 use Rattle.reader.proofs.Searches.{RestInv}
 use Rattle.reader.proofs.lookup.search_rest.Given as goal
 
-abbrev pub invariant-loop-left : goal.invariant-loop-left
-invariant-loop-left l = RestInv l.image l.name l.h l.at l.n l.first l.m l.k l.left
-
-abbrev pub decreases-loop-left : goal.decreases-loop-left
-decreases-loop-left l = l.left
+abbrev pub invariant-loop-i : goal.invariant-loop-i
+invariant-loop-i l = RestInv l.image l.name l.h l.at l.n l.first l.m l.k (l.m - l.i)

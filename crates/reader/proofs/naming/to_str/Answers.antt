@@ -4,8 +4,7 @@ use borrow.Author.Tests.{lt-leb}
 use Rattle.image.specs.Bytes.{word}
 use Rattle.image.specs.Stored.{broken}
 use Rattle.reader.specs.Naming.{place, unnamed, naming}
-use Rattle.image.proofs.Unbroken.{unbroken}
-use Rattle.reader.proofs.Namings.{back, back_word, naming_by}
+use Rattle.reader.proofs.Namings.{back_word, naming_by}
 use Rattle.reader.proofs.naming.to_str.Goals.{After-word-at}
 use Rattle.reader.proofs.naming.to_str.Goals as goal
 
@@ -26,9 +25,6 @@ returns-then-no_back c =
     let image = a.image.now in
     naming_by image a.id _ true _ _ _ refl (sym c.no_back.ensures ∙ c.if-no_back.true) refl refl refl
 
-pub word-requires : goal.word-requires
-word-requires c = omega (arith, back c.args.image.now (sym c.no_back.ensures ∙ c.if-no_back.false))
-
 pub returns-then-word-id : goal.returns-then-word-id
 returns-then-word-id c =
     let a = c.args in
@@ -37,35 +33,12 @@ returns-then-word-id c =
     naming_by image a.id _ false true _ _ refl (sym of-no-back.ensures ∙ c.if-no_back.false)
     (le-leb (word image 16) a.id (omega (arith, c.word.ensures))) refl refl
 
-pub word-requires-2 : goal.word-requires-2
-word-requires-2 c =
-    let a = c.args in
-    let image = a.image.now in
-    let of-no-back = c.no_back in
-    omega (arith, back image (sym of-no-back.ensures ∙ c.if-no_back.false))
-
-pub word-at-requires : goal.word-at-requires
-word-at-requires c =
-    let a = c.args in
-    let image = a.image.now in
-    let of-no-back = c.no_back in
-    let of_word = c.word in
-    omega (arith, back image (sym of-no-back.ensures ∙ c.if-no_back.false), of_word.ensures, c.word-2.ensures)
-
 pub returns-then-at-eq0 : goal.returns-then-at-eq0
 returns-then-at-eq0 c = answer (goal.at.returns-then-at-eq0 c).After-word-at true _ (eq-eqb c.word-at.result 0 c.if-at-eq0.true) refl
 
 pub returns-then-broken : goal.returns-then-broken
 returns-then-broken c =
     answer (goal.at.returns-then-broken c).After-word-at false true (ne_eqb c.word-at.result 0 c.if-at-eq0.false) (sym c.broken.ensures ∙ c.if-broken.true)
-
-pub word-requires-3 : goal.word-requires-3
-word-requires-3 c =
-    omega (arith, unbroken (c.args.image.now) c.word-at.result (sym c.broken.ensures ∙ c.if-broken.false))
-
-pub overflow_sub-result : goal.overflow_sub-result
-overflow_sub-result c =
-    omega (arith, unbroken (c.args.image.now) c.word-at.result (sym c.broken.ensures ∙ c.if-broken.false), c.word-3.ensures)
 
 pub returns : goal.returns
 returns c =

@@ -1,22 +1,27 @@
 -- `serialize::insert::insert_entries` meets its contract. Assumes nothing.
-use Rattle.std.proofs.Common.{◌+◌, ◌<◌, ◌≤◌, refl, arith}
+use Rattle.std.proofs.Common.{◌≡◌, ◌+◌, ◌-◌, ◌≤◌, sym, refl, arith}
 use Rattle.serialize.specs.Steps.Insertion.{EntryPre}
 use Rattle.serialize.proofs.Insertion.{not_met, stopped, entry_in, inserted_broken, inserted_step, inserted_all}
-use Rattle.serialize.proofs.insert.insert_entries.Goals.{After-insert_entry-one, Else-n-eq0}
+use Rattle.serialize.proofs.insert.insert_entries.Goals.{In-Some, After-insert_entry-one}
 use Rattle.serialize.proofs.insert.insert_entries.Goals as goal
 
 -- the entry that was read lies before the end
-entry : (c : Else-n-eq0) → let n = c.whole_length-n.result in
-    (c.loop-left.at + (8 + n) ≤ c.args.end) × EntryPre c.loop-left.at n c.loop-left.buf
+entry : (c : In-Some) → let n = c.in-Some.n in
+    (c.loop.at + (8 + n) ≤ c.args.end) × EntryPre c.loop.at n c.loop.buf
 entry c =
-    let n = c.whole_length-n in
-    entry_in c.requires c.loop-left.buf c.loop-left.invariant.long c.loop-left.at n.result c.loop-left.invariant.inside n.ensures.is
-    n.ensures.small c.if-n-eq0.false
+    entry_in c.requires c.loop.buf c.loop.invariant.long c.loop.at c.in-Some.n c.loop.invariant.inside c.in-Some.ensures
 
-pub returns-then-n-eq0 : goal.returns-then-n-eq0
-returns-then-n-eq0 c =
-    inserted_broken c.loop-left.invariant c.loop-left-test.true
-    c.whole_length-n.ensures.is _ c.if-n-eq0.true
+pub whole_length-requires : goal.whole_length-requires
+whole_length-requires c =
+    record { from = c.loop.invariant.inside; inside = omega (arith, c.requires.inside, c.loop.invariant.long) }
+
+pub loop-init : goal.loop-init
+loop-init c =
+    let e : c.args.entries - 0 ≡ c.args.entries = omega arith in
+    record { inside = c.requires.low; long = refl; leaves = rw e refl; unmet = rw e (λ z rest. rest) }
+
+pub returns-in_default : goal.returns-in_default
+returns-in_default c = inserted_broken c.loop.invariant (omega arith) (sym c.in_default.ensures) _ refl
 
 pub returns-then-stop-one : goal.returns-then-stop-one
 returns-then-stop-one c =
@@ -25,43 +30,19 @@ returns-then-stop-one c =
 pub insert_entry-one-requires : goal.insert_entry-one-requires
 insert_entry-one-requires c =
     record {
-      entry = (entry (goal.at.insert_entry-one-requires c).Else-n-eq0).1;
-      front = omega (arith, c.requires.inside, c.loop-left.invariant.long);
+      entry = (entry (goal.at.insert_entry-one-requires c).In-Some).1;
+      front = omega (arith, c.requires.inside, c.loop.invariant.long);
       back_word = c.requires.back_word;
     }
 
--- the place behind it is a word
-next_word : (c : After-insert_entry-one) → c.loop-left.at + (8 + c.whole_length-n.result) < 4294967296
-next_word c = omega (
-  arith,
-  (let the-entry : let n = c.whole_length-n.result in
-      (c.loop-left.at + (8 + n) ≤ c.args.end) × EntryPre c.loop-left.at n c.loop-left.buf = let n = c.whole_length-n in
-      entry_in c.requires c.loop-left.buf c.loop-left.invariant.long c.loop-left.at n.result c.loop-left.invariant.inside n.ensures.is
-      n.ensures.small c.if-n-eq0.false in the-entry).0,
-  c.requires.end_word,
-)
-
-pub loop-left-preserved : goal.loop-left-preserved
-loop-left-preserved c =
+pub loop-preserved : goal.loop-preserved
+loop-preserved c =
     let done = c.insert_entry-one in
-    inserted_step c.loop-left.invariant c.loop-left-test.true c.whole_length-n.ensures.is
-    c.if-n-eq0.false
-    (entry (goal.at.loop-left-preserved c).Else-n-eq0).0 done.new.buf done.auto.buf done.ensures
-
-pub loop-left-init : goal.loop-left-init
-loop-left-init c = record { inside = c.requires.low; long = refl; leaves = refl; unmet = λ z rest. rest }
-
-pub overflow_add-at : goal.overflow_add-at
-overflow_add-at c = omega (arith, next_word (goal.at.overflow_add-at c).After-insert_entry-one)
-
-pub overflow_add-at-in-loop-left : goal.overflow_add-at-in-loop-left
-overflow_add-at-in-loop-left c = omega (arith, next_word (goal.at.overflow_add-at-in-loop-left c).After-insert_entry-one)
-
-pub overflow_sub-left : goal.overflow_sub-left
-overflow_sub-left c = omega arith
-
-pub loop-left-smaller : goal.loop-left-smaller
-loop-left-smaller c = omega arith
+    let w = c.in-Some.ensures in
+    let e : c.args.entries - c.loop.counter - 1 ≡ c.args.entries - (c.loop.counter + 1) = omega arith in
+    rw e at
+    (inserted_step c.loop.invariant (omega arith) w.is (λ z. omega (arith, w.some))
+    (entry (goal.at.loop-preserved c).In-Some).0 done.new.buf done.auto.buf done.ensures)
 
 pub returns : goal.returns
-returns c = inserted_all c.loop-left.invariant _ (omega arith)
+returns c = inserted_all c.loop.invariant _ (omega arith)

@@ -1,11 +1,8 @@
 -- `serialize::insert::probe` meets its contract. The loop's invariant: the probe sequence that is left tells what the whole one tells. Assumes nothing.
-use Rattle.std.proofs.Common.{take}
+use Rattle.std.proofs.Common.{◌-◌, take}
 use Rattle.lookup_laws.proofs.SlotSearch.{Remaining}
 use Rattle.serialize.specs.Steps.Meeting.{bucket_at, same_names}
 use Rattle.serialize.proofs.insert.probe.Given as goal
 
-abbrev pub invariant-loop-left : goal.invariant-loop-left
-invariant-loop-left l = Remaining (bucket_at l.buf l.o) (same_names (take l.end l.buf) l.at) l.h l.n l.left l.k
-
-abbrev pub decreases-loop-left : goal.decreases-loop-left
-decreases-loop-left l = l.left
+abbrev pub invariant-loop : goal.invariant-loop
+invariant-loop l = Remaining (bucket_at l.buf l.o) (same_names (take l.end l.buf) l.at) l.h l.n (l.n - l.counter) l.k

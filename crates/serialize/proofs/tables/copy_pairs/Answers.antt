@@ -6,7 +6,7 @@ use Rattle.serialize.proofs.tables.copy_pairs.Goals.{At-loop-i}
 use Rattle.serialize.proofs.tables.copy_pairs.Goals as goal
 
 pub loop-i-init : goal.loop-i-init
-loop-i-init c = record { long = refl; most = omega arith; copied = record { first = λ i h. absurd (omega arith); second = λ i h. absurd (omega arith) } }
+loop-i-init c = record { long = refl; copied = record { first = λ i h. absurd (omega arith); second = λ i h. absurd (omega arith) } }
 
 -- the pair stands in the buffer, and the copy has room for it
 inside : (c : At-loop-i) → c.loop-i.i + 1 ≤ c.args.c → c.args.o + 8 * c.loop-i.i + 8 ≤ length c.args.buf.now
@@ -21,14 +21,13 @@ loop-i-preserved c =
     let x = set c.loop-i.copy (2 * c.loop-i.i) c.word.result in
     record {
       long = length-set x (2 * c.loop-i.i + 1) c.word-in-loop-i.result ∙ length-set c.loop-i.copy (2 * c.loop-i.i) c.word.result ∙ c.loop-i.invariant.long;
-      most = omega (arith, less);
       copied = copy_step c.loop-i.invariant.copied (room (goal.at.loop-i-preserved c).At-loop-i (omega (arith, less))) c.word.ensures
           c.word-in-loop-i.ensures;
     }
 
 pub returns : goal.returns
 returns c =
-    let all : c.loop-i.i ≡ c.args.c = omega (arith, c.loop-i.invariant.most, c.loop-i-test.false) in
+    let all : c.loop-i.i ≡ c.args.c = omega (arith, c.loop-i-test.false) in
     subst (PairsCopied c.loop-i.copy c.args.buf.now c.args.o) all c.loop-i.invariant.copied
 
 pub overflow_mul-i : goal.overflow_mul-i
@@ -71,9 +70,6 @@ bounds-copy-i-in-loop-i c = omega (
   length-set
       c.loop-i.copy (2 * c.loop-i.i) c.word.result,
 )
-
-pub loop-i-smaller : goal.loop-i-smaller
-loop-i-smaller c = omega (arith, c.loop-i-test.true)
 
 pub shape_of-copy : goal.shape_of-copy
 shape_of-copy c = c.loop-i.invariant.long

@@ -6,7 +6,6 @@ use Rattle.serialize.proofs.tables.fill_tables.Given as goal
 
 -- the tables from t on, filled in this buffer, leave what all tables leave
 pub record Filling (counts : List ℕ) (end : ℕ) (buf₀ copy₀ buf copy : List ℕ) (met : Bool) (o t : ℕ) : Type 0 where
-  pub most : t ≤ 256
   pub long : length buf ≡ length buf₀
   pub copy_long : length copy ≡ length copy₀
   pub leaves : tables_from counts o t (256 - t) buf ≡ tables_from counts end 0 256 buf₀
@@ -15,8 +14,5 @@ pub record Filling (counts : List ℕ) (end : ℕ) (buf₀ copy₀ buf copy : Li
   pub front : take end buf ≡ take end buf₀
   pub apart : met ≡ false → TablesApart (take end buf₀) counts o t (256 - t) buf → TablesApart (take end buf₀) counts end 0 256 buf₀
 
-abbrev pub invariant-loop-t : goal.invariant-loop-t
-invariant-loop-t l = Filling l.counts l.end l.initial.buf l.initial.copy l.buf l.copy l.met l.o l.t
-
-abbrev pub decreases-loop-t : goal.decreases-loop-t
-decreases-loop-t l = 256 - l.t
+abbrev pub invariant-loop-count : goal.invariant-loop-count
+invariant-loop-count l = Filling l.counts l.end l.initial.buf l.initial.copy l.buf l.copy l.met l.o l.count-index

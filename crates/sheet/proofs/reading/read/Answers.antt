@@ -1,98 +1,81 @@
 -- `sheet::reading::read` meets its contract. Assumes nothing.
-use Prim.Native.Nat.{◌≤◌}
-use native.Mathlib.Omega.{arith}
-use mathlib.Core.Path.{◌≡◌, sym, ap, ◌∙◌}
-use lib.ListN.{length}
+use Rattle.std.proofs.Common.{◌≡◌, ◌≤◌, length, sym, ap, ◌∙◌, arith}
+use Rattle.std.proofs.lemmas.Result.{err_from_is_err_and}
 use Rattle.jhash.specs.Outcome.{value}
 use Rattle.sheet.specs.SheetReading.{part_end, section_at, sections}
-use Rattle.sheet.specs.Cases.{section_answer_of}
 use Rattle.sheet.proofs.Sections.{found_inside}
 use Rattle.sheet.proofs.Sheets.{short_references, short_walls, short_retired, all_three}
 use Rattle.sheet.proofs.Files.{reading_short, reading_left, reading_whole}
-use Rattle.sheet.proofs.reading.read.Goals.{In-At, In-At-section_at, In-At-section_at-2}
+use Rattle.sheet.proofs.reading.read.Goals.{In_ok-references, In_ok-walls, In_ok-retired}
 use Rattle.sheet.proofs.reading.read.Goals as goal
 
-found_1 : (c : In-At) → section_at c.args.file.now 0 ≡ value c.in-At.references
-found_1 c = sym c.section_at.ensures ∙ ap section_answer_of c.in-At.is
+-- the three sections that are found
+found_1 : (c : In_ok-references) → section_at c.args.file.now 0 ≡ value c.in_ok-references.references
+found_1 c = sym c.in_ok-references.ensures
 
-found_2 : (c : In-At-section_at) → section_at c.args.file.now (part_end c.in-At.references) ≡ value c.in-At-section_at.walls
-found_2 c =
-    ap (section_at c.args.file.now) (sym c.end_of.ensures)
-    ∙ sym c.section_at-2.ensures ∙ ap section_answer_of c.in-At-section_at.is
+found_2 : (c : In_ok-walls) → section_at c.args.file.now (part_end c.in_ok-references.references) ≡ value c.in_ok-walls.walls
+found_2 c = ap (section_at c.args.file.now) (sym c.end_of.ensures) ∙ sym c.in_ok-walls.ensures
 
-found_3 : (c : In-At-section_at-2) → section_at c.args.file.now (part_end c.in-At-section_at.walls) ≡ value c.in-At-section_at-2.retired
-found_3 c =
-    ap (section_at c.args.file.now) (sym c.end_of-2.ensures)
-    ∙ sym c.section_at-3.ensures ∙ ap section_answer_of c.in-At-section_at-2.is
+found_3 : (c : In_ok-retired) → section_at c.args.file.now (part_end c.in_ok-walls.walls) ≡ value c.in_ok-retired.retired
+found_3 c = ap (section_at c.args.file.now) (sym c.end_of-2.ensures) ∙ sym c.in_ok-retired.ensures
 
-three : (c : In-At-section_at-2) → sections c.args.file.now ≡ value
-    (record { references = c.in-At.references; walls = c.in-At-section_at.walls; retired = c.in-At-section_at-2.retired })
+three : (c : In_ok-retired) → sections c.args.file.now ≡ value
+    (record { references = c.in_ok-references.references; walls = c.in_ok-walls.walls; retired = c.in_ok-retired.retired })
 three c =
-    all_three c.args.file.now c.in-At.references (let the-found_1 : section_at c.args.file.now 0
-    ≡ value c.in-At.references = sym c.section_at.ensures ∙ ap section_answer_of c.in-At.is in the-found_1) c.in-At-section_at.walls
-    (let the-found_2 : section_at c.args.file.now (part_end c.in-At.references)
-    ≡ value c.in-At-section_at.walls = ap (section_at c.args.file.now) (sym c.end_of.ensures)
-    ∙ sym c.section_at-2.ensures ∙ ap section_answer_of c.in-At-section_at.is in the-found_2) c.in-At-section_at-2.retired (found_3 c)
+    let f = c.args.file.now in
+    all_three f c.in_ok-references.references (sym c.in_ok-references.ensures) c.in_ok-walls.walls
+    (ap (section_at f) (sym c.end_of.ensures) ∙ sym c.in_ok-walls.ensures) c.in_ok-retired.retired (found_3 c)
 
 -- and each ends in the file
-inside_1 : (c : In-At) → part_end c.in-At.references ≤ length c.args.file.now
-inside_1 c = found_inside c.args.file.now 0 c.in-At.references (found_1 c)
+inside_1 : (c : In_ok-references) → part_end c.in_ok-references.references ≤ length c.args.file.now
+inside_1 c = found_inside c.args.file.now 0 c.in_ok-references.references (found_1 c)
 
-inside_2 : (c : In-At-section_at) → part_end c.in-At-section_at.walls ≤ length c.args.file.now
-inside_2 c = found_inside c.args.file.now (part_end c.in-At.references) c.in-At-section_at.walls (found_2 c)
+inside_2 : (c : In_ok-walls) → part_end c.in_ok-walls.walls ≤ length c.args.file.now
+inside_2 c = found_inside c.args.file.now (part_end c.in_ok-references.references) c.in_ok-walls.walls (found_2 c)
 
-inside_3 : (c : In-At-section_at-2) → part_end c.in-At-section_at-2.retired ≤ length c.args.file.now
-inside_3 c = found_inside c.args.file.now (part_end c.in-At-section_at.walls) c.in-At-section_at-2.retired (found_3 c)
+inside_3 : (c : In_ok-retired) → part_end c.in_ok-retired.retired ≤ length c.args.file.now
+inside_3 c = found_inside c.args.file.now (part_end c.in_ok-walls.walls) c.in_ok-retired.retired (found_3 c)
 
-pub returns-in_default : goal.returns-in_default
-returns-in_default c =
-    let f = c.args.file.now in
-    sym (reading_short f (short_references f (sym c.section_at.ensures ∙ ap section_answer_of c.in_default.is)))
+pub returns-in_err-references : goal.returns-in_err-references
+returns-in_err-references c =
+    let p = err_from_is_err_and c.from_residual.result c.from_residual.ensures.1 in
+    rw (p.1, p.2) (sym (reading_short c.args.file.now (short_references c.args.file.now (sym c.in_err-references.ensures))))
 
 pub end_of-requires : goal.end_of-requires
-end_of-requires c = omega (arith, inside_1 (goal.at.end_of-requires c).In-At)
+end_of-requires c = omega (arith, inside_1 (goal.at.end_of-requires c).In_ok-references)
 
 pub section_at-requires-2 : goal.section_at-requires-2
-section_at-requires-2 c = omega (arith, inside_1 (goal.at.section_at-requires-2 c).In-At, c.end_of.ensures)
+section_at-requires-2 c = omega (arith, inside_1 (goal.at.section_at-requires-2 c).In_ok-references, c.end_of.ensures)
 
-pub returns-in_default-section_at : goal.returns-in_default-section_at
-returns-in_default-section_at c =
+pub returns-in_err-walls : goal.returns-in_err-walls
+returns-in_err-walls c =
     let f = c.args.file.now in
-    let found = c.section_at-2.ensures in
-    let short = ap (section_at f) (sym c.end_of.ensures) ∙ sym found ∙ ap section_answer_of c.in_default-section_at.is in
-    sym (reading_short f (short_walls f c.in-At.references (found_1 (goal.at.returns-in_default-section_at c).In-At) short))
+    let one = found_1 (goal.at.returns-in_err-walls c).In_ok-references in
+    let short = ap (section_at f) (sym c.end_of.ensures) ∙ sym c.in_err-walls.ensures in
+    let p = err_from_is_err_and c.from_residual-in_err-walls.result c.from_residual-in_err-walls.ensures.1 in
+    rw (p.1, p.2) (sym (reading_short f (short_walls f c.in_ok-references.references one short)))
 
 pub end_of-requires-2 : goal.end_of-requires-2
-end_of-requires-2 c = omega (arith, inside_2 (goal.at.end_of-requires-2 c).In-At-section_at)
+end_of-requires-2 c = omega (arith, inside_2 (goal.at.end_of-requires-2 c).In_ok-walls)
 
 pub section_at-requires-3 : goal.section_at-requires-3
-section_at-requires-3 c = omega (arith, inside_2 (goal.at.section_at-requires-3 c).In-At-section_at, c.end_of-2.ensures)
+section_at-requires-3 c = omega (arith, inside_2 (goal.at.section_at-requires-3 c).In_ok-walls, c.end_of-2.ensures)
 
-pub returns-in_default-section_at-2 : goal.returns-in_default-section_at-2
-returns-in_default-section_at-2 c =
+pub returns-in_err-retired : goal.returns-in_err-retired
+returns-in_err-retired c =
     let f = c.args.file.now in
-    let found = c.section_at-3.ensures in
-    let short = ap (section_at f) (sym c.end_of-2.ensures) ∙ sym found ∙ ap section_answer_of c.in_default-section_at-2.is in
-    sym (reading_short f (short_retired f c.in-At.references (found_1 (goal.at.returns-in_default-section_at-2 c).In-At) c.in-At-section_at.walls
-    (found_2 (goal.at.returns-in_default-section_at-2 c).In-At-section_at) short))
+    let one = found_1 (goal.at.returns-in_err-retired c).In_ok-references in
+    let two = found_2 (goal.at.returns-in_err-retired c).In_ok-walls in
+    let short = ap (section_at f) (sym c.end_of-2.ensures) ∙ sym c.in_err-retired.ensures in
+    let p = err_from_is_err_and c.from_residual-in_err-retired.result c.from_residual-in_err-retired.ensures.1 in
+    rw (p.1, p.2) (sym (reading_short f (short_retired f c.in_ok-references.references one c.in_ok-walls.walls two short)))
 
 pub end_of-requires-3 : goal.end_of-requires-3
-end_of-requires-3 c = omega (arith, inside_3 (goal.at.end_of-requires-3 c).In-At-section_at-2, c.well_formed)
+end_of-requires-3 c = omega (arith, inside_3 (goal.at.end_of-requires-3 c).In_ok-retired)
 
 pub returns-then-end_of-file : goal.returns-then-end_of-file
 returns-then-end_of-file c =
-    sym (reading_left c.args.file.now (record {
-      references = c.in-At.references;
-      walls = c.in-At-section_at.walls;
-      retired =
-          c.in-At-section_at-2.retired;
-    }) (three (goal.at.returns-then-end_of-file c).In-At-section_at-2) (omega (arith, c.end_of-3.ensures)))
+    sym (reading_left c.args.file.now _ (three (goal.at.returns-then-end_of-file c).In_ok-retired) (omega (arith, c.end_of-3.ensures)))
 
 pub returns : goal.returns
-returns c =
-    sym (reading_whole c.args.file.now (record {
-      references = c.in-At.references;
-      walls = c.in-At-section_at.walls;
-      retired =
-          c.in-At-section_at-2.retired;
-    }) (three (goal.at.returns c).In-At-section_at-2) (omega (arith, c.end_of-3.ensures)))
+returns c = sym (reading_whole c.args.file.now _ (three (goal.at.returns c).In_ok-retired) (omega (arith, c.end_of-3.ensures)))

@@ -1,25 +1,16 @@
 -- `sheet::reading::section` meets its contract. Assumes nothing.
-use mathlib.Core.Path.{sym, ap, ◌∙◌}
+use Rattle.std.proofs.Common.{sym, ap, ◌∙◌}
 use Rattle.reader.specs.Slices.{slice}
 use Rattle.sheet.specs.SheetReading.{cut_part}
-use Rattle.sheet.specs.Cases.{read_of}
 use Rattle.sheet.proofs.Parts.{section_there, no_section}
 use Rattle.sheet.proofs.reading.section.Goals as goal
 
-pub returns-in-Whole : goal.returns-in-Whole
-returns-in-Whole c =
+pub returns-in-Ok : goal.returns-in-Ok
+returns-in-Ok c =
     let a = c.args in
-    let read = sym c.read.ensures ∙ ap read_of c.in-Whole.is in
     c.part.ensures
     ∙ ap (cut_part (slice a.file)) c.place_of.ensures
-    ∙ section_there (slice a.file) a.which c.in-Whole.s read
+    ∙ section_there (slice a.file) a.which c.in-Ok.s (sym c.in-Ok.ensures)
 
-pub returns-in-TooFew : goal.returns-in-TooFew
-returns-in-TooFew c =
-    let a = c.args in
-    no_section (slice a.file) a.which 19 (sym c.read.ensures ∙ ap read_of c.in-TooFew.is)
-
-pub returns-in-LeftOver : goal.returns-in-LeftOver
-returns-in-LeftOver c =
-    let a = c.args in
-    no_section (slice a.file) a.which 20 (sym c.read.ensures ∙ ap read_of c.in-LeftOver.is)
+pub returns-in-Err : goal.returns-in-Err
+returns-in-Err c = no_section (slice c.args.file) c.args.which _ (sym c.in-Err.ensures)

@@ -1,9 +1,0 @@
--- `writer::entry::append` meets its contract. Assumes nothing.
-use Rattle.writer.proofs.Puts.{appended_parts}
-use Rattle.writer.proofs.entry.append.Goals as goal
-
-pub returns : goal.returns
-returns c =
-    let a = c.args in
-    appended_parts a.w c.writer_after_put.result a.counts.now c.raise.new.counts a.buf.now c.store.new.buf a.name.now a.id a.h
-    c.requires.hash c.writer_after_put.ensures c.raise.ensures c.store.ensures
