@@ -12,6 +12,7 @@ use build::needs::{Needs, for_list};
 use image::Mode;
 use jhash::refusals::Refusal;
 use writer::Repeats;
+use writer::numbers::mode_of;
 
 // The refusal's number, 0 when accepted; the image's size and the number of accepted puts, zeros when refused.
 #[repr(C)]
@@ -116,10 +117,5 @@ impl From<Needs> for NeedsAnswer {
 pub extern "C" fn cqdb_build_needs(mode: u32, size: usize, ids: &[u32]) -> NeedsAnswer
     ensures { result ≡ needs_answer mode size ids.now }
 {
-    let image_mode = if mode == 0 {
-        Mode::Twoway
-    } else {
-        Mode::Oneway
-    };
-    NeedsAnswer::from(for_list(image_mode, size as u64, ids))
+    NeedsAnswer::from(for_list(mode_of(mode), size as u64, ids))
 }

@@ -11,7 +11,7 @@ ghost use Rattle.cqdb_c.specs.SizeWith.{size_with};
 
 use image::Mode;
 use jhash::refusals::{Refusal, refusal_number};
-use writer::c_record::{Record, record_in};
+use writer::c_record::{Record, record_in, writer_of};
 use writer::{CQDBWriter, Repeats};
 
 // What close answers: the refusal's number, 0 when accepted; the image's size, 0 when refused. The C interface: a
@@ -166,13 +166,5 @@ pub extern "C" fn cqdb_size_with_parts(
         return 18446744073709551615;
     }
     // No mode or choice of repeats is refused here: every mode but 0 counts as one-way, and the choice changes no size.
-    let w = CQDBWriter {
-        mode: Mode::try_from(r.mode).unwrap_or(Mode::Oneway),
-        repeats: Repeats::On,
-        length: r.length,
-        end: r.end,
-        entries: r.entries,
-        back: r.back,
-    };
-    w.size_with(n, id)
+    writer_of(r).size_with(n, id)
 }

@@ -13,7 +13,7 @@ pub struct PackedNames<'a> {
 
 // Do the ends fall, or pass `size` bytes? The loop reads each of them and ends at none, so the compiler makes no branch
 // of the tests.
-fn invalid_ends(ends: &[u64], size: usize) -> bool
+pub fn invalid_ends(ends: &[u64], size: usize) -> bool
     ensures { result ≡ invalid_ends size 0 ends.now }
 {
     let mut bad = false;

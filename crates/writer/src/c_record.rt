@@ -1,7 +1,8 @@
 // The writer record as C has it, but for the 256 table counts, which are lent apart.
 ghost use Rattle.std.specs.Prelude.{◌≡◌};
-ghost use Rattle.writer.specs.CRecord.{writer_read, record_of, record_in};
+ghost use Rattle.writer.specs.CRecord.{writer_of, writer_read, record_of, record_in};
 
+use super::numbers::{mode_of, repeats_of};
 use super::{CQDBWriter, Repeats};
 use image::Mode;
 use jhash::refusals::Refusal;
@@ -31,6 +32,20 @@ pub fn record_in(numbers: &[u32; 4], sizes: &[u64; 2]) -> Record
         back: numbers[3],
         length: sizes[0],
         end: sizes[1],
+    }
+}
+
+// The record as the writer has it, whatever its numbers are.
+pub fn writer_of(r: Record) -> CQDBWriter
+    ensures { result ≡ writer_of r }
+{
+    CQDBWriter {
+        mode: mode_of(r.mode),
+        repeats: repeats_of(r.repeats),
+        length: r.length,
+        end: r.end,
+        entries: r.entries,
+        back: r.back,
     }
 }
 

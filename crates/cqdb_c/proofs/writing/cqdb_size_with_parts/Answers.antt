@@ -3,15 +3,12 @@ use native.Mathlib.Omega.{arith}
 use mathlib.Core.Path.{refl, ap, ◌∙◌}
 use mathlib.Core.Bool.{true, false}
 use borrow.Author.Tests.{le-leb, lt-leb}
-use Rattle.std.proofs.Common.{Result}
-use Rattle.std.specs.Result.{result_unwrap_or}
-use Rattle.jhash.specs.declared.refusals.Refusal.{Refusal}
-use Rattle.image.specs.declared.Mode.{Mode}
-use Rattle.image.specs.declared.Mode.TheVariants.{Oneway}
+use Rattle.writer.specs.declared.CQDBWriter.{CQDBWriter}
 use Rattle.writer.specs.declared.c_record.Record.{Record}
-use Rattle.writer.specs.CRecord.{record_in}
-use Rattle.cqdb_c.proofs.Sizes.{size_by, size_told, size_of}
-use Rattle.cqdb_c.proofs.RecordRead.{mode_or_oneway}
+use Rattle.writer.specs.State.{finished_size}
+use Rattle.writer.specs.Put.{writer_after_put}
+use Rattle.writer.specs.CRecord.{writer_of, record_in}
+use Rattle.cqdb_c.proofs.Sizes.{size_by}
 use Rattle.cqdb_c.proofs.writing.cqdb_size_with_parts.Goals as goal
 
 pub returns-then-r-ge9223372036854775808 : goal.returns-then-r-ge9223372036854775808
@@ -31,7 +28,7 @@ returns-then-n-ge4294967295 c =
 
 pub size_with-requires : goal.size_with-requires
 size_with-requires c = record {
-  low = omega (arith, c.if-r-ge9223372036854775808.false);
+  low = omega (arith, ap (λ (x : CQDBWriter). x.end) c.writer_of.ensures, c.if-r-ge9223372036854775808.false);
   short = omega (arith, c.if-n-ge4294967295.false);
 }
 
@@ -39,11 +36,8 @@ pub returns : goal.returns
 returns c =
     let a = c.args in
     let end = ap (λ (x : Record). x.end) c.record_in-r.ensures in
-    let mode = c.unwrap_or.ensures ∙ ap (λ (x : Result Mode Refusal). result_unwrap_or x Oneway) c.try_from.ensures
-    ∙ mode_or_oneway c.record_in-r.result.mode in
     c.size_with.ensures
-    ∙ size_of c.record_in-r.result _ _ a.n a.id mode
-    ∙ ap (λ (x : Record). size_told x a.n a.id) c.record_in-r.ensures
+    ∙ ap (λ (x : CQDBWriter). finished_size (writer_after_put x a.n a.id)) (c.writer_of.ensures ∙ ap writer_of c.record_in-r.ensures)
     ∙ size_by (record_in a.numbers.now a.sizes.now) a.n a.id false false
     (lt-leb 9223372036854775808 (record_in a.numbers.now a.sizes.now).end (omega (arith, end, c.if-r-ge9223372036854775808.false)))
     (lt-leb 4294967295 a.n c.if-n-ge4294967295.false)
