@@ -8,7 +8,7 @@ ghost use Rattle.preflight.specs.Cases.{place_of, dates_of};
 ghost use Rattle.validity.specs.declared.Window.{Window};
 
 use jhash::refusals::Refusal;
-use validity::calendar::{is_date, is_end};
+use validity::calendar::{earlier, is_date, is_end};
 use validity::{Date, Window};
 
 // Why the dates of a report are no: a refusal, 22 or 23; or the place of the first id of the round that has no such
@@ -53,7 +53,7 @@ fn has_invalid_date(w: Window) -> bool
 fn is_inverted(w: Window) -> bool
     ensures { result ≡ inverted w }
 {
-    w.end <= w.first
+    !earlier(w.first, w.end)
 }
 
 // Is it a window of the id that holds the date, the first date included, the end date not?
@@ -63,7 +63,7 @@ fn holds_date(w: Window, id: u32, date: Date) -> bool
     if w.id != id {
         return false;
     }
-    w.first <= date && date < w.end
+    !earlier(date, w.first) && earlier(date, w.end)
 }
 
 // Is it a window of the id that holds both dates?

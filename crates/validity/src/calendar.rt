@@ -1,5 +1,5 @@
 // The Gregorian calendar of the years 1900 to 2199.
-ghost use Rattle.std.specs.Prelude.{◌≡◌};
+ghost use Rattle.std.specs.Prelude.{◌≡◌, ◌+◌, ◌*◌};
 ghost use Rattle.validity.specs.Calendar.{leap, month_length, is_date, is_end, earlier};
 
 use super::Date;
@@ -45,9 +45,17 @@ pub fn is_end(d: Date) -> bool
         }
 }
 
-// Does the date a come before b: by year, then month, then day?
+// Year, month and day in one number: the earlier the date, the smaller.
+fn number(d: Date) -> u32
+    ensures { result ≡ d.year * 65536 + d.month * 256 + d.day }
+{
+    d.year as u32 * 65536 + d.month as u32 * 256 + d.day as u32
+}
+
+// Does the date a come before b: by year, then month, then day? One comparison of numbers: the derived order of three
+// fields takes a search over windows up to half as much time again.
 pub fn earlier(a: Date, b: Date) -> bool
     ensures { result ≡ earlier a b }
 {
-    a < b
+    number(a) < number(b)
 }

@@ -3,7 +3,7 @@ ghost use Rattle.std.specs.Prelude.{◌≡◌};
 ghost use Rattle.validity.specs.Windows.{window_state};
 ghost use Rattle.validity.specs.Steps.Fold.{one_window_state};
 
-use super::calendar::{is_date, is_end};
+use super::calendar::{earlier, is_date, is_end};
 use super::{Date, Window, WindowState};
 
 // What one window says.
@@ -13,10 +13,10 @@ fn state_of(w: Window, id: u32, date: Date) -> WindowState
     if !is_date(w.first) || !is_end(w.end) {
         return WindowState::InvalidDate;
     }
-    if w.end <= w.first {
+    if !earlier(w.first, w.end) {
         return WindowState::Inverted;
     }
-    if w.id == id && w.first <= date && date < w.end {
+    if w.id == id && !earlier(date, w.first) && earlier(date, w.end) {
         return WindowState::Active;
     }
     WindowState::Inactive

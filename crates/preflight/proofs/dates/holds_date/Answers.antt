@@ -1,20 +1,19 @@
--- `preflight::dates::holds_date` meets its contract. Assumes nothing.
-use Rattle.std.proofs.Common.{refl, ap, ◌∙◌, true, false, eq-eqb, ne_eqb}
-use Rattle.validity.proofs.Order.{less, not_earlier, is_earlier}
+-- `preflight::dates::holds_date` meets its contract, by the tests that led to each return. Assumes nothing.
+use Rattle.std.proofs.Common.{refl, sym, ap, not, ◌∙◌, true, false, eq-eqb, ne_eqb}
 use Rattle.preflight.proofs.Windows.{holds_by}
 use Rattle.preflight.proofs.dates.holds_date.Goals as goal
 
 pub returns-then-w-id : goal.returns-then-w-id
 returns-then-w-id c = let a = c.args in holds_by a.w a.id a.date false _ _ (ne_eqb _ _ c.if-w-id.true) refl refl
 
-pub returns-then-le : goal.returns-then-le
-returns-then-le c =
+pub returns-then-not-earlier : goal.returns-then-not-earlier
+returns-then-not-earlier c =
     let a = c.args in
-    c.lt.ensures ∙ less a.date a.w.end
-    ∙ holds_by a.w a.id a.date true false _ (eq-eqb _ _ c.if-w-id.false) (not_earlier a.w.first a.date _ c.le.ensures c.if-le.true) refl
+    c.earlier-then-not-earlier.ensures
+    ∙ holds_by a.w a.id a.date true false _ (eq-eqb _ _ c.if-w-id.false) (sym c.earlier.ensures ∙ c.if-not-earlier.true) refl
 
-pub returns-else-le : goal.returns-else-le
-returns-else-le c =
+pub returns-else-not-earlier : goal.returns-else-not-earlier
+returns-else-not-earlier c =
     let a = c.args in
-    c.if-le.false
-    ∙ holds_by a.w a.id a.date true true _ (eq-eqb _ _ c.if-w-id.false) (is_earlier a.w.first a.date _ c.le.ensures c.if-le.false) refl
+    ap not c.if-not-earlier.false
+    ∙ holds_by a.w a.id a.date true true _ (eq-eqb _ _ c.if-w-id.false) (sym c.earlier.ensures ∙ c.if-not-earlier.false) refl

@@ -1,10 +1,9 @@
 -- `validity::windows::state_of` meets its contract, by the tests that led to each return.
 use Rattle.std.proofs.Common.{refl, sym, ◌∙◌, true, false, eq-eqb, ne_eqb}
-use Rattle.validity.proofs.Order.{less, not_earlier, is_earlier}
 use Rattle.validity.proofs.WindowTests.{state_of_by}
 use Rattle.validity.proofs.windows.state_of.Goals.{then-not-is_date-via-then-not-is_date, then-not-is_date-via-else-not-is_date+then-not-is_end}
-use Rattle.validity.proofs.windows.state_of.Goals.{else-w-id-via-then-w-id+then-le-2+else-lt}
-use Rattle.validity.proofs.windows.state_of.Goals.{else-w-id-via-then-w-id+else-le-2, else-w-id-via-else-w-id}
+use Rattle.validity.proofs.windows.state_of.Goals.{else-w-id-via-then-w-id+then-not-earlier-2+else-earlier}
+use Rattle.validity.proofs.windows.state_of.Goals.{else-w-id-via-then-w-id+else-not-earlier-2, else-w-id-via-else-w-id}
 use Rattle.validity.proofs.windows.state_of.Goals as goal
 
 pub returns-then-not-is_date : goal.returns-then-not-is_date
@@ -18,33 +17,32 @@ returns-then-not-is_date c =
           (sym w.is_end.ensures ∙ w.if-not-is_end.true) refl refl refl refl
     ]
 
-pub returns-then-le : goal.returns-then-le
-returns-then-le c =
+pub returns-then-not-earlier : goal.returns-then-not-earlier
+returns-then-not-earlier c =
     let a = c.args in
     state_of_by a.id a.date a.w true true false _ _ _ (sym c.is_date.ensures ∙ c.if-not-is_date.false)
-    (sym c.is_end.ensures ∙ c.if-not-is_end.false) (not_earlier a.w.end a.w.first _ c.le.ensures c.if-le.true) refl refl refl
+    (sym c.is_end.ensures ∙ c.if-not-is_end.false) (sym c.earlier.ensures ∙ c.if-not-earlier.true) refl refl refl
 
-pub returns-then-lt : goal.returns-then-lt
-returns-then-lt c =
+pub returns-then-earlier : goal.returns-then-earlier
+returns-then-earlier c =
     let a = c.args in
     state_of_by a.id a.date a.w true true true true false true (sym c.is_date.ensures ∙ c.if-not-is_date.false)
-    (sym c.is_end.ensures ∙ c.if-not-is_end.false) (is_earlier a.w.end a.w.first _ c.le.ensures c.if-le.false)
-    (eq-eqb _ _ c.if-w-id.true) (not_earlier a.w.first a.date _ c.le-then-w-id.ensures c.if-le-2.true)
-    (sym (c.lt.ensures ∙ less a.date a.w.end) ∙ c.if-lt.true)
+    (sym c.is_end.ensures ∙ c.if-not-is_end.false) (sym c.earlier.ensures ∙ c.if-not-earlier.false) (eq-eqb _ _ c.if-w-id.true)
+    (sym c.earlier-then-w-id.ensures ∙ c.if-not-earlier-2.true) (sym c.earlier-then-not-earlier-2.ensures ∙ c.if-earlier.true)
 
 pub returns : goal.returns
 returns c =
     let a = c.args in
     let first = sym c.is_date.ensures ∙ c.if-not-is_date.false in
     let end = sym c.is_end.ensures ∙ c.if-not-is_end.false in
-    let before = is_earlier a.w.end a.w.first _ c.le.ensures c.if-le.false in
+    let before = sym c.earlier.ensures ∙ c.if-not-earlier.false in
     elim c.else-w-id.branch [
-      | else-w-id-via-then-w-id+then-le-2+else-lt w ↦
+      | else-w-id-via-then-w-id+then-not-earlier-2+else-earlier w ↦
           state_of_by a.id a.date a.w true true true true false false first end before (eq-eqb _ _ w.if-w-id.true)
-          (not_earlier a.w.first a.date _ w.le-then-w-id.ensures w.if-le-2.true) (sym (w.lt.ensures ∙ less a.date a.w.end) ∙ w.if-lt.false)
-      | else-w-id-via-then-w-id+else-le-2 w ↦
+          (sym w.earlier-then-w-id.ensures ∙ w.if-not-earlier-2.true) (sym w.earlier-then-not-earlier-2.ensures ∙ w.if-earlier.false)
+      | else-w-id-via-then-w-id+else-not-earlier-2 w ↦
           state_of_by a.id a.date a.w true true true true true _ first end before (eq-eqb _ _ w.if-w-id.true)
-          (is_earlier a.w.first a.date _ w.le-then-w-id.ensures w.if-le-2.false) refl
+          (sym w.earlier-then-w-id.ensures ∙ w.if-not-earlier-2.false) refl
       | else-w-id-via-else-w-id w ↦
           state_of_by a.id a.date a.w true true true false _ _ first end before (ne_eqb _ _ w.if-w-id.false) refl refl
     ]
