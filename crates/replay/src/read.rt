@@ -34,7 +34,12 @@ fn agrees(ask: Ask, n: u32, name: &[u8], walk: Iter, image: &[u8]) -> bool {
 
 impl<'a> Reading<'a> {
     // A line that changes the image.
-    pub fn change(&mut self, change: Change, first: &[u8], second: &[u8]) -> Option<Verdict> {
+    pub(super) fn change(
+        &mut self,
+        change: Change,
+        first: &[u8],
+        second: &[u8],
+    ) -> Option<Verdict> {
         let n = hex::number(first)? as usize;
         match change {
             Change::Zero => {
@@ -56,7 +61,7 @@ impl<'a> Reading<'a> {
     }
 
     // A line that begins a new walk.
-    pub fn begin_walk(&mut self) -> Option<Verdict> {
+    pub(super) fn begin_walk(&mut self) -> Option<Verdict> {
         self.image()?;
         self.walk = id_walk::iter();
         Some(Verdict::Silent)
@@ -73,7 +78,12 @@ impl<'a> Reading<'a> {
     }
 
     // A line that asks. One about a missing name, or the end of a walk, has no number.
-    pub fn ask<'b>(&mut self, ask: Ask, first: &'b [u8], second: &'b [u8]) -> Option<Verdict> {
+    pub(super) fn ask<'b>(
+        &mut self,
+        ask: Ask,
+        first: &'b [u8],
+        second: &'b [u8],
+    ) -> Option<Verdict> {
         let walk = self.walk;
         self.walk = self.stands(ask)?;
         let (n, name) = match ask {

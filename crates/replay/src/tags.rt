@@ -57,7 +57,7 @@ pub enum Look {
 
 impl Tag {
     // The tag that a line's first word is.
-    pub fn parse(word: &[u8]) -> Option<Tag> {
+    pub(super) fn parse(word: &[u8]) -> Option<Tag> {
         Some(match word {
             b"hash" => Tag::Hash,
             b"rota" => Tag::Rota,

@@ -39,7 +39,7 @@ fn print_line<W: Write>(output: &mut W, label: &[u8], line: &[u8]) -> io::Result
 impl Counts {
     // One more line with this verdict, `None` where it could not be read. It is printed where it is different or could
     // not be read.
-    pub fn count<W: Write>(
+    pub(super) fn count<W: Write>(
         &mut self,
         output: &mut W,
         line: &[u8],
@@ -61,7 +61,7 @@ impl Counts {
     }
 
     // Writes the counts out.
-    pub fn print<W: Write>(self, output: &mut W) -> io::Result<()> {
+    pub(super) fn print<W: Write>(self, output: &mut W) -> io::Result<()> {
         writeln!(output, "equal {}", self.equal)?;
         writeln!(output, "different {}", self.different)?;
         writeln!(output, "malformed {}", self.malformed)

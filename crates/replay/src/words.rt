@@ -11,7 +11,7 @@ pub struct Words<'a> {
 }
 
 impl<'a> Words<'a> {
-    pub fn of(line: &'a [u8]) -> Words<'a> {
+    pub(super) fn of(line: &'a [u8]) -> Words<'a> {
         let end = &line[line.len()..];
         let mut words = line.splitn(4, |b| *b == b' ');
         Words {

@@ -58,7 +58,7 @@ impl<'a> Writing<'a> {
     }
 
     // A line that calls the writer.
-    pub fn call(&mut self, call: Call, first: &[u8], second: &[u8]) -> Option<Verdict> {
+    pub(super) fn call(&mut self, call: Call, first: &[u8], second: &[u8]) -> Option<Verdict> {
         let n = hex::number(first)?;
         match call {
             Call::New2 => self.begin(Mode::Twoway, n as usize),
@@ -102,7 +102,7 @@ impl<'a> Writing<'a> {
     }
 
     // A line about the image of the last close.
-    pub fn look(&mut self, look: Look, first: &[u8], second: &[u8]) -> Option<Verdict> {
+    pub(super) fn look(&mut self, look: Look, first: &[u8], second: &[u8]) -> Option<Verdict> {
         let image = self.image()?;
         match look {
             Look::Sums => sums(image, first, second),
