@@ -33,7 +33,7 @@ overflow_cast-w c =
     record { fits = end_word a.w.now (length a.name.now) a.id c.in_ok-slot.ensures.bounds.stores.size }
 
 pub store_slot-requires : goal.store_slot-requires
-store_slot-requires c = (rw c.in-Some.is at c.in_ok-slot.ensures.bounds.taken).inside
+store_slot-requires c = let inside = (rw c.in-Some.is at c.in_ok-slot.ensures.bounds.taken).inside in omega (arith, inside)
 
 pub append-requires : goal.append-requires
 append-requires c = c.in_ok-slot.ensures.bounds.stores

@@ -14,7 +14,15 @@ short_here c =
     a.from found.id (naming_of found.before) (naming_of found.after) c.in-Some.ensures
 
 pub name_answer-requires : goal.name_answer-requires
-name_answer-requires c = (short_here (goal.at.name_answer-requires c).In-Some).before_short
+name_answer-requires c =
+    let short = short_here (goal.at.name_answer-requires c).In-Some in
+    let before = short.before_short in
+    let after = short.after_short in
+    search (before, after)
 
 pub name_answer-requires-in-Some : goal.name_answer-requires-in-Some
-name_answer-requires-in-Some c = (short_here (goal.at.name_answer-requires-in-Some c).In-Some).after_short
+name_answer-requires-in-Some c =
+    let short = short_here (goal.at.name_answer-requires-in-Some c).In-Some in
+    let before = short.before_short in
+    let after = short.after_short in
+    search (before, after)
