@@ -205,3 +205,11 @@ module _ {buf : List ℕ} {at end n : ℕ} (pre : WholeLengthPre buf at end) (w 
 
   pub whole_room : EntryRoom buf at end n
   whole_room = entry_room buf at end n pre.from pre.inside w.is (λ z. omega (arith, w.some))
+
+  -- it is the word that is read there again
+  pub whole_again : {m : ℕ} → m ≡ word buf (at + 4) → WholeLength buf at end m
+  whole_again {m} read =
+      let f = whole_front in
+      let s = size pre in
+      let same : n ≡ m = sym f.is ∙ word_between buf at end 4 (omega arith) ∙ sym read in
+      record { is = sym same ∙ w.is; some = omega (arith, w.some); small = omega (arith, w.small) }

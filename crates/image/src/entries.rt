@@ -89,7 +89,9 @@ fn is_sought(name: &[u8], h: u32, sought: &[u8], want: u32) -> bool
 }
 
 // Walks `entries` entries from 2,072 on, counts them by table and says whether one has the name that is sought. The
-// walk continues past that name, since a broken entry may follow; where one is broken, there is no answer.
+// walk continues past that name, since a broken entry may follow; where one is broken, there is no answer. The length
+// word is read once more where the entry is whole: the value that `whole_length` gives would have to wait for the byte
+// that it tests last.
 pub fn walk(
     buf: &[u8],
     end: usize,
@@ -106,7 +108,8 @@ pub fn walk(
     let mut contains = false;
     let want = hash_or_zero(sought);
     for _ in 0..entries {
-        let n = whole_length(buf, at, end)?;
+        whole_length(buf, at, end)?;
+        let n = word(buf, at + 4) as usize;
         let name = name_at(buf, at, n);
         back = back.max(word(buf, at) as u64 + 1);
         let h = hash_or_zero(name);
