@@ -11,14 +11,17 @@ fn leap(year: u16) -> bool
     year % 4 == 0 && (year % 100 != 0 || year % 400 == 0)
 }
 
-// How many days a month has; 0 where the number is no month's.
+// How many days a month has; 0 where the number is no month's. February is asked for first: the lengths of the others
+// are constants, so that they are read from a table.
 fn month_length(year: u16, month: u8) -> u8
     ensures { result ≡ month_length year month }
 {
+    if month == 2 {
+        return if leap(year) { 29 } else { 28 };
+    }
     match month {
         1 | 3 | 5 | 7 | 8 | 10 | 12 => 31,
         4 | 6 | 9 | 11 => 30,
-        2 => { if leap(year) { 29 } else { 28 } }
         _ => 0,
     }
 }

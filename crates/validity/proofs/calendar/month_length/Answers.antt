@@ -10,10 +10,10 @@ pub returns-in-4 : goal.returns-in-4
 returns-in-4 c = months_30 _ _ c.in-4.is
 
 pub returns-then-leap : goal.returns-then-leap
-returns-then-leap c = leap_february _ _ c.in-2.is (sym c.leap.ensures ∙ c.if-leap.true)
+returns-then-leap c = leap_february _ _ c.if-month-eq2.true (sym c.leap.ensures ∙ c.if-leap.true)
 
 pub returns-else-leap : goal.returns-else-leap
-returns-else-leap c = february _ _ c.in-2.is (sym c.leap.ensures ∙ c.if-leap.false)
+returns-else-leap c = february _ _ c.if-month-eq2.true (sym c.leap.ensures ∙ c.if-leap.false)
 
 pub returns-in_default : goal.returns-in_default
 unfolding month_length one_of
