@@ -1,5 +1,5 @@
 -- `build_c::build_numbered` meets its contract: what `build` promises, where mode and repeats are known numbers. Assumes nothing.
-use Rattle.std.proofs.Common.{◌≡◌, ℕ, Bool, length, sym, ap, ap₂, ◌∙◌}
+use Rattle.std.proofs.Common.{◌≡◌, ℕ, Bool, length, sym, ap, ap₂, ◌∙◌, rules}
 use mathlib.Core.Bool.{◌&&◌, true, false}
 use lib.Dec.{leb}
 use Rattle.std.proofs.lemmas.Result.{err_from_is_err_and}
@@ -26,9 +26,10 @@ told c =
     let a = c.args in
     let m = read_known (leb a.mode 1) c.in_ok-image_mode.ensures in
     let r = read_known (leb a.repeats 1) c.in_ok-choice.ensures in
+    let mode = m.1 in
     let p = c.build.ensures in
     known_build a.mode a.repeats a.buf.now a.names.now a.ends.now a.ids.now a.refusals.now (ap₂ (λ (x y : Bool). x && y) m.0 r.0)
-    c.in_ok-image_mode.image_mode c.in_ok-choice.choice m.1 r.1 (outcome_of c.build.result) _ _ p.answer p.leaves p.answers
+    _ c.in_ok-choice.choice (search (mode, rules)) r.1 (outcome_of c.build.result) _ _ p.answer p.leaves p.answers
 
 pub returns-in_err-image_mode-clause-answer : goal.returns-in_err-image_mode-clause-answer
 returns-in_err-image_mode-clause-answer c =
@@ -85,5 +86,5 @@ pub returns-clause-untouched : goal.returns-clause-untouched
 returns-clause-untouched c = λ some.
     let a = c.args in
     c.build.ensures.untouched
-    (refusal_due c.in_ok-image_mode.image_mode c.in_ok-choice.choice a.buf.now a.names.now a.ends.now a.ids.now (length a.refusals.now)
+    (refusal_due _ c.in_ok-choice.choice a.buf.now a.names.now a.ends.now a.ids.now (length a.refusals.now)
     c.build.result c.build.ensures.answer some)

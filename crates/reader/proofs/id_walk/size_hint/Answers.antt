@@ -1,5 +1,5 @@
 -- `reader::id_walk::size_hint` meets its contract. Assumes nothing.
-use Rattle.std.proofs.Common.{sym, ◌∙◌}
+use Rattle.std.proofs.Common.{◌≡◌, ◌-◌, sym, ◌∙◌, rules, tests}
 use Rattle.reader.proofs.Namings.{hint_none, hint_back}
 use Rattle.reader.proofs.id_walk.size_hint.Goals as goal
 
@@ -14,5 +14,6 @@ returns c =
     let a = c.args in
     let image = a.image.now in
     let of-no-back = c.no_back in
+    let left : c.saturating_sub.result ≡ c.word.result - a.walk.next = search (rules, tests) in
     hint_back image a.walk.next c.word.result c.saturating_sub.result (sym of-no-back.ensures ∙ c.if-no_back.false)
-    c.word.ensures c.saturating_sub.ensures
+    c.word.ensures left
