@@ -14,6 +14,10 @@ use Rattle.reader.specs.Naming.{Naming, naming}
 use Rattle.changes.specs.Changes.{upper, differs, first_among, first_change, changed, unchanged, change_at, next_change}
 use Rattle.changes.specs.Theorems.Theorem.{calls}
 
+-- none is no some
+pub none_some : {A : Type 0} {P : Type 0} (x : A) → none ≡ some x → P
+none_some x e = let z : ◌≡◌ {A = ℕ} 0 1 = cc in absurd (omega arith)
+
 module _ (old new : List ℕ) where
   -- ---- the steps of the search
 

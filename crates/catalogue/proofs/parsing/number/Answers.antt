@@ -1,7 +1,7 @@
 -- `catalogue::parsing::number` meets its contract. Assumes nothing.
 use Rattle.std.proofs.Common.{arith, refl, ◌≡◌, ◌+◌, ◌*◌, ◌-◌, get_or}
 use Rattle.catalogue.specs.Steps.Contracts.{TooLarge}
-use Rattle.catalogue.proofs.Decimals.{digit_read, reaches, number_end}
+use Rattle.catalogue.proofs.Decimals.{digit_read, reaches, number_read}
 use Rattle.catalogue.proofs.parsing.number.Goals as goal
 
 pub loop-b-init : goal.loop-b-init
@@ -32,4 +32,4 @@ loop-b-preserved c =
     rw read (digit_read _ _ c.loop-b.b-index c.loop-b.invariant c.loop-b-test.true)
 
 pub returns : goal.returns
-returns c = number_end _ _ c.loop-b.b-index c.loop-b.invariant c.loop-b-test.false
+returns c = number_read _ _ c.loop-b.b-index c.loop-b.invariant c.loop-b-test.false
