@@ -11,8 +11,8 @@ fn leap(year: u16) -> bool
     year % 4 == 0 && (year % 100 != 0 || year % 400 == 0)
 }
 
-// How many days a month has; 0 where the number is no month's. February is asked for first: the lengths of the others
-// are constants, so that they are read from a table.
+// How many days a month has; 0 where the number is no month's. February stands apart, so that the match gives numbers
+// alone: it is compiled to tests of bits, where with `leap` in it it was a jump by a table.
 fn month_length(year: u16, month: u8) -> u8
     ensures { result ≡ month_length year month }
 {
